@@ -1,0 +1,5 @@
+pub mod Fake
+pub mod Identity
+pub mod Outside
+pub mod Table
+pub mod Walk

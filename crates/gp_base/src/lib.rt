@@ -1,0 +1,26 @@
+//! The ground that every other crate stands on: lists of octets, the identifiers of Green Power, and the
+//! two sides of the outside world.
+//! To the layer above, octet lists are lists of numbers, and a `Source` or an `Out` is what is left to
+//! read or was written, where it tells it, beside a count of faults that never falls.
+//! The contracts cite `Outside` for those two, `Fake` for the ones in memory and `Walk` for the reader.
+#![tactic(auto)]
+
+mod identity;
+mod memory_out;
+mod memory_source;
+mod octets;
+mod outside;
+mod read_source;
+mod reader;
+mod word;
+mod write_out;
+
+pub use identity::{Key, KeyKind, Level, Mode, Src, derived_group};
+pub use memory_out::MemoryOut;
+pub use memory_source::MemorySource;
+pub use octets::Octets;
+pub use outside::{Failed, NoMemory, Out, Source};
+pub use read_source::ReadSource;
+pub use reader::Reader;
+pub use word::Word;
+pub use write_out::WriteOut;
