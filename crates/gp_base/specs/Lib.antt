@@ -1,4 +1,5 @@
 pub mod Fake
+pub mod Field
 pub mod Identity
 pub mod Outside
 pub mod Table

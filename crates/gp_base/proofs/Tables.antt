@@ -1,0 +1,15 @@
+-- Tables of tests, one behind the other.
+use Rattle.std.proofs.Common.{◌≡◌, Bool, true, false, List, [], ◌∷◌, ◌++◌, Some, None, refl}
+use Rattle.gp_base.specs.Table.{first_of}
+
+-- the first of two tables decides where one of its tests holds
+pub first_of-append-some : {A : Type 0} (front back : List (Bool × A)) (found : A) → first_of front ≡ Some found → first_of (front ++ back) ≡ Some found
+first_of-append-some [] back found h = absurd cc
+first_of-append-some ((true, a) ∷ front) back found h = h
+first_of-append-some ((false, a) ∷ front) back found h = first_of-append-some front back found h
+
+-- and the second where none of them does
+pub first_of-append-none : {A : Type 0} (front back : List (Bool × A)) → first_of front ≡ None → first_of (front ++ back) ≡ first_of back
+first_of-append-none [] back h = refl
+first_of-append-none ((true, a) ∷ front) back h = absurd cc
+first_of-append-none ((false, a) ∷ front) back h = first_of-append-none front back h
