@@ -1,0 +1,5 @@
+pub mod LineLemmas
+pub mod Outcomes
+pub mod Runs
+pub mod Streams
+pub mod Taking

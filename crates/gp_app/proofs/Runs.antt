@@ -1,0 +1,223 @@
+-- What has been read and written so far, and what each way to end leaves.
+use Rattle.std.proofs.Common.{◌≡◌, ℕ, suc, ◌+◌, ◌⊎◌, inl, inr, true, false, ◌||◌, List, [], ◌∷◌, ◌++◌, take, drop, Option, Some, None, refl, sym, ap, subst, ◌∙◌, append_assoc, arith}
+use Rattle.std.specs.Io.KnownBytes.{Appends, Consumes, Keeps, IsAtEnd}
+use Rattle.std.specs.List.{list_any}
+use Rattle.std.specs.Str.Lines.{lines}
+use Rattle.std.proofs.lemmas.List.{append-nil, take-append-drop}
+use Rattle.gp_app.specs.declared.status.Status.{Status}
+use Rattle.gp_app.specs.declared.status.Status.TheVariants.{Done, BadLine, Usage, ReadFault, WriteFault, DiskFault, NoMemory, DiskRefused, Worn, TooLong}
+use Rattle.gp_app.specs.Outcome.{Outcome, after, outcome_of, outcome, complete}
+use Rattle.gp_app.specs.Stream.{HasNoEnd, AreWhole, Takes, Stops, Ends, Grows, IsStop}
+use Rattle.gp_app.specs.Leaves.{IsFront, Decides, Fits, Leaves, Counts, Says, SaysOr}
+use Rattle.gp_app.proofs.Streams.{Appends-then, Appends-nothing}
+use Rattle.gp_app.proofs.LineLemmas.{is_end, HasNoEnd-nil}
+use Rattle.gp_app.proofs.Taking.{Takes-nothing, Takes-then, Takes-going, IsStop-map}
+
+Consumes-nothing : (known : Option (List ℕ)) → Consumes known known []
+Consumes-nothing None = tt
+Consumes-nothing (Some xs) = refl
+
+Consumes-then : (a b c : Option (List ℕ)) (xs ys : List ℕ) → Consumes a b xs → Consumes b c ys → Consumes a c (xs ++ ys)
+Consumes-then None b c xs ys h k = tt
+Consumes-then (Some xa) None c xs ys h k = absurd h
+Consumes-then (Some xa) (Some xb) None xs ys h k = absurd k
+Consumes-then (Some xa) (Some xb) (Some xc) xs ys h k = h ∙ ap (λ (zs : List ℕ). xs ++ zs) k ∙ sym (append_assoc xs ys xc)
+
+Consumes-kept : (a b c : Option (List ℕ)) (xs : List ℕ) → Consumes a b xs → Keeps b c → Consumes a c xs
+Consumes-kept None b c xs h k = tt
+Consumes-kept (Some xa) None c xs h k = absurd h
+Consumes-kept (Some xa) (Some xb) None xs h k = absurd k
+Consumes-kept (Some xa) (Some xb) (Some xc) xs h k = h ∙ ap (λ (zs : List ℕ). xs ++ zs) (sym k)
+
+-- ---- the lines that stand complete
+
+any_end : (front back : List ℕ) → list_any is_end (front ++ 10 ∷ back) ≡ true
+any_end [] back = refl
+any_end (octet ∷ front) back = elim (is_end octet) as (λ b. (b || list_any is_end (front ++ 10 ∷ back)) ≡ true) [ true ↦ refl | false ↦ any_end front back ]
+
+no_end : (octets : List ℕ) → HasNoEnd octets → list_any is_end octets ≡ false
+no_end [] none = refl
+no_end (octet ∷ octets) none = rw (none 0 0 (omega arith)) (no_end octets (λ k d h. none (suc k) d (omega arith)))
+
+complete-none : (octets : List ℕ) → HasNoEnd octets → complete octets ≡ []
+complete-none [] none = refl
+complete-none (octet ∷ octets) none = rw (no_end (octet ∷ octets) none) refl
+
+complete-end : (front begun : List ℕ) → HasNoEnd begun → complete (front ++ 10 ∷ begun) ≡ front ++ 10 ∷ []
+complete-end [] begun none = ap (λ (xs : List ℕ). 10 ∷ xs) (complete-none begun none)
+complete-end (octet ∷ front) begun none = rw (any_end (octet ∷ front) begun) (ap (λ (xs : List ℕ). octet ∷ xs) (complete-end front begun none))
+
+complete-whole : (whole begun : List ℕ) → AreWhole whole → HasNoEnd begun → complete (whole ++ begun) ≡ whole
+complete-whole whole begun (inl none) begins = rw none (complete-none begun begins)
+complete-whole whole begun (inr some) begins =
+    ap (λ (xs : List ℕ). complete (xs ++ begun)) some.1 ∙ ap complete (append_assoc some.0 (10 ∷ []) begun) ∙ complete-end some.0 begun begins ∙ sym some.1
+
+ended : (listing : List ℕ → Option (List ℕ)) (n : ℕ) (text : List ℕ) → after text (outcome_of listing (n + 1) []) ≡ record { text = text; status = Done }
+unfolding outcome_of
+ended listing n text = ap (λ (xs : List ℕ). record { text = xs; status = Done }) (append-nil text)
+
+front_of : (a b : List ℕ) (rest : List ℕ) (text : List ℕ) → text ≡ (a ++ b) ++ rest → (count : ℕ) → IsFront (a ++ take count b) text
+front_of a b rest text is count =
+    (drop count b ++ rest, is ∙ ap (λ (xs : List ℕ). (a ++ xs) ++ rest) (sym (take-append-drop count b)) ∙ ap (λ (xs : List ℕ). xs ++ rest) (sym (append_assoc a (take count b) (drop count b))) ∙ append_assoc (a ++ take count b) (drop count b) rest)
+
+module _ (listing : List ℕ → Option (List ℕ)) where
+  -- these octets were read and this text was written for the lines that they end
+  pub record Reads (left_before left_now written_before written_now : Option (List ℕ)) (n : ℕ) (begun : List ℕ) : Type 0 where
+    pub read : List ℕ
+    pub told : List ℕ
+    pub consumed : Consumes left_before left_now read
+    pub appended : Appends written_before written_now told
+    pub taken : Takes listing 0 [] read n begun told
+
+  pub Reads-start : (left written : Option (List ℕ)) → Reads left left written written 0 []
+  Reads-start left written = record { read = []; told = []; consumed = Consumes-nothing left; appended = Appends-nothing written; taken = Takes-nothing listing 0 [] HasNoEnd-nil }
+
+  -- one more piece, whose text was written
+  pub Reads-more : (left left' left'' written written' written'' : Option (List ℕ)) (n : ℕ) (begun piece : List ℕ) (n' : ℕ) (begun' text : List ℕ)
+      → Reads left left' written written' n begun → Consumes left' left'' piece → Grows [] text (Takes listing n begun piece n' begun') → Appends written' written'' text
+      → Reads left left'' written written'' n' begun'
+  Reads-more left left' left'' written written' written'' n begun piece n' begun' text h consumed grows appended = record {
+    read = h.read ++ piece;
+    told = h.told ++ text;
+    consumed = Consumes-then left left' left'' h.read piece h.consumed consumed;
+    appended = Appends-then written written' written'' h.told text h.appended appended;
+    taken = rw grows.1 (Takes-then listing 0 [] h.read n begun h.told piece n' begun' grows.0 h.taken grows.2);
+  }
+
+  -- a read failed
+  pub leaves_read_fault : (left left' left'' written written' : Option (List ℕ)) (n : ℕ) (begun : List ℕ) → Reads left left' written written' n begun → Keeps left' left'' → Leaves listing ReadFault left left'' written written'
+  leaves_read_fault left left' left'' written written' n begun h keeps = record {
+    read = h.read;
+    written = h.told;
+    consumed = Consumes-kept left left' left'' h.read h.consumed keeps;
+    appended = h.appended;
+    fits =
+        let is : complete h.read ≡ h.taken.whole = ap complete h.taken.parts ∙ complete-whole h.taken.whole begun h.taken.are_whole h.taken.begun in
+        ap (outcome listing) is ∙ ap (λ (xs : List ℕ). outcome listing xs) (sym (append-nil h.taken.whole)) ∙ h.taken.going [] ∙ ended listing n h.told;
+  }
+
+  -- the outcome of what was read with a piece that was taken, of one that stops, and of nothing more
+  going_on : (n : ℕ) (begun read told piece : List ℕ) → Takes listing 0 [] read n begun told → (rest : List ℕ)
+      → outcome listing ((read ++ piece) ++ rest) ≡ after told (outcome_of listing (n + 1) (lines (begun ++ (piece ++ rest))))
+  going_on n begun read told piece h rest = ap (outcome listing) (append_assoc read piece rest) ∙ Takes-going listing 0 [] read n begun told (piece ++ rest) h
+
+  text_of : (n : ℕ) (begun read told piece : List ℕ) → Takes listing 0 [] read n begun told → (o : Outcome)
+      → outcome_of listing (n + 1) (lines (begun ++ (piece ++ []))) ≡ o → outcome listing (read ++ piece) ≡ after told o
+  text_of n begun read told piece h o is = ap (outcome listing) (sym (append-nil (read ++ piece))) ∙ going_on n begun read told piece h [] ∙ ap (after told) is
+
+  -- the text of a piece was not written to its end
+  pub leaves_write_fault : (left left' left'' written written' written'' : Option (List ℕ)) (n : ℕ) (begun piece text : List ℕ) (o : Outcome) → Reads left left' written written' n begun → Consumes left' left'' piece
+      → outcome_of listing (n + 1) (lines (begun ++ (piece ++ []))) ≡ after text o → (count : ℕ) × Appends written' written'' (take count text)
+      → Leaves listing WriteFault left left'' written written''
+  leaves_write_fault left left' left'' written written' written'' n begun piece text o h consumed is appended = record {
+    read = h.read ++ piece;
+    written = h.told ++ take appended.0 text;
+    consumed = Consumes-then left left' left'' h.read piece h.consumed consumed;
+    appended = Appends-then written written' written'' h.told (take appended.0 text) h.appended appended.1;
+    fits = front_of h.told text o.text _ (ap (λ (x : Outcome). x.text) (text_of n begun h.read h.told piece h.taken (after text o) is) ∙ sym (append_assoc h.told text o.text)) appended.0;
+  }
+
+  -- memory was not found
+  leaves_no_memory : (left left' left'' written written' : Option (List ℕ)) (n : ℕ) (begun piece : List ℕ) → Reads left left' written written' n begun → Consumes left' left'' piece
+      → Leaves listing NoMemory left left'' written written'
+  leaves_no_memory left left' left'' written written' n begun piece h consumed = record {
+    read = h.read ++ piece;
+    written = h.told;
+    consumed = Consumes-then left left' left'' h.read piece h.consumed consumed;
+    appended = h.appended;
+    fits = (_, ap (λ (x : Outcome). x.text) (text_of n begun h.read h.told piece h.taken (outcome_of listing (n + 1) (lines (begun ++ (piece ++ [])))) refl));
+  }
+
+  -- the octets of a piece decide, or that nothing more comes
+  abbrev Stopped : Option (List ℕ) → ℕ → List ℕ → List ℕ → Outcome → Type 0
+  Stopped left n begun piece o = Stops listing n begun piece o ⊎ (IsAtEnd left × (piece ≡ []) × Ends listing n begun o)
+
+  at_end : (n : ℕ) (begun piece : List ℕ) (o : Outcome) → piece ≡ [] → Ends listing n begun o → outcome_of listing (n + 1) (lines (begun ++ (piece ++ []))) ≡ o
+  at_end n begun piece o none ends = ap (λ (xs : List ℕ). outcome_of listing (n + 1) (lines (begun ++ (xs ++ [])))) none ∙ ap (λ (xs : List ℕ). outcome_of listing (n + 1) (lines xs)) (append-nil begun) ∙ ends
+
+  stopped_is : (left : Option (List ℕ)) (n : ℕ) (begun piece : List ℕ) (o : Outcome) → Stopped left n begun piece o → outcome_of listing (n + 1) (lines (begun ++ (piece ++ []))) ≡ o
+  stopped_is left n begun piece o (inl stops) = stops []
+  stopped_is left n begun piece o (inr ends) = at_end n begun piece o ends.1 ends.2
+
+  decides : (left : Option (List ℕ)) (n : ℕ) (begun read told piece : List ℕ) (o : Outcome) → Takes listing 0 [] read n begun told → Stopped left n begun piece o → Decides listing left (read ++ piece) (after told o)
+  decides left n begun read told piece o h (inl stops) = inl (λ rest. going_on n begun read told piece h rest ∙ ap (after told) (stops rest))
+  decides left n begun read told piece o h (inr ends) = inr (ends.0, text_of n begun read told piece h o (at_end n begun piece o ends.1 ends.2))
+
+  after-nothing : (text : List ℕ) (status : Status) → after text (record { text = []; status = status }) ≡ record { text = text; status = status }
+  after-nothing text status = ap (λ (xs : List ℕ). record { text = xs; status = status }) (append-nil text)
+
+  module _ (left left' left'' written written' written'' : Option (List ℕ)) (n : ℕ) (begun piece text : List ℕ) (f f' : ℕ) where
+    -- a status that the octets decide, and the text that was written before it
+    leaves_decided : (status result : Status) → ((read told : List ℕ) → Decides listing left'' read (record { text = told; status = status }) → Fits listing status left'' read told)
+        → Reads left left' written written' n begun → Consumes left' left'' piece → Stopped left'' n begun piece (record { text = text; status = status })
+        → SaysOr status result written' written'' text f f' → Leaves listing result left left'' written written''
+    leaves_decided status result to_fit h consumed stopped (inl said) = subst (λ (s : Status). Leaves listing s left left'' written written'') (sym said.0) (record {
+      read = h.read ++ piece;
+      written = h.told ++ text;
+      consumed = Consumes-then left left' left'' h.read piece h.consumed consumed;
+      appended = Appends-then written written' written'' h.told text h.appended said.1;
+      fits = to_fit (h.read ++ piece) (h.told ++ text) (decides left'' n begun h.read h.told piece (record { text = text; status = status }) h.taken stopped);
+    })
+    leaves_decided status result to_fit h consumed stopped (inr said) = subst (λ (s : Status). Leaves listing s left left'' written written'') (sym said.0)
+        (leaves_write_fault left left' left'' written written' written'' n begun piece text (record { text = []; status = status }) h consumed (stopped_is left'' n begun piece (record { text = text; status = status }) stopped ∙ sym (after-nothing text status)) said.1)
+
+    -- a piece, or the end of the input, at which it stops
+    pub leaves_stop : (status result : Status) → Reads left left' written written' n begun → Consumes left' left'' piece → IsStop status [] text (Stopped left'' n begun piece)
+        → Says status result written' written'' text f f' → Leaves listing result left left'' written written''
+    leaves_stop (BadLine line reason) result h consumed stop says = leaves_decided (BadLine line reason) result (λ read told d. d) h consumed (rw stop.1 stop.2) says
+    leaves_stop TooLong result h consumed stop says = leaves_decided TooLong result (λ read told d. d) h consumed (rw stop.1 stop.2) says
+    leaves_stop NoMemory result h consumed stop says = rw (says.0, says.1) (leaves_no_memory left left' left'' written written' n begun piece h consumed)
+    leaves_stop Done result h consumed stop says = absurd stop
+    leaves_stop Usage result h consumed stop says = absurd stop
+    leaves_stop ReadFault result h consumed stop says = absurd stop
+    leaves_stop WriteFault result h consumed stop says = absurd stop
+    leaves_stop DiskFault result h consumed stop says = absurd stop
+    leaves_stop (DiskRefused reason) result h consumed stop says = absurd stop
+    leaves_stop (Worn generation) result h consumed stop says = absurd stop
+
+  -- the end of the input, where all went well
+  pub leaves_done : (left left' left'' written written' written'' : Option (List ℕ)) (n : ℕ) (begun piece text : List ℕ) (f f' : ℕ) (result : Status)
+      → Reads left left' written written' n begun → Consumes left' left'' piece → IsAtEnd left'' → piece ≡ [] → Grows [] text (λ more. Ends listing n begun (record { text = more; status = Done }))
+      → Says Done result written' written'' text f f' → Leaves listing result left left'' written written''
+  leaves_done left left' left'' written written' written'' n begun piece text f f' result h consumed ended none grows says =
+      leaves_decided left left' left'' written written' written'' n begun piece text f f' Done result (λ read told d. (ended, fits_done left'' read told d ended)) h consumed (inr (ended, none, rw grows.1 grows.2)) says
+    where
+      fits_done : (left : Option (List ℕ)) (read told : List ℕ) → Decides listing left read (record { text = told; status = Done }) → IsAtEnd left → outcome listing read ≡ record { text = told; status = Done }
+      fits_done left read told (inl always) ended = ap (outcome listing) (sym (append-nil read)) ∙ always []
+      fits_done left read told (inr at_end) ended = at_end.1
+
+  -- a piece was taken, and its text not written to its end
+  pub leaves_piece_fault : (left left' left'' written written' written'' : Option (List ℕ)) (n : ℕ) (begun piece : List ℕ) (n' : ℕ) (begun' text : List ℕ)
+      → Reads left left' written written' n begun → Consumes left' left'' piece → Grows [] text (Takes listing n begun piece n' begun') → (count : ℕ) × Appends written' written'' (take count text)
+      → Leaves listing WriteFault left left'' written written''
+  leaves_piece_fault left left' left'' written written' written'' n begun piece n' begun' text h consumed grows appended =
+      leaves_write_fault left left' left'' written written' written'' n begun piece text (outcome_of listing (n' + 1) (lines (begun' ++ []))) h consumed (rw grows.1 (Takes-going listing n begun piece n' begun' grows.0 [] grows.2)) appended
+
+  -- what stops a piece or the end of the input
+  pub stop_in_piece : (status : Status) (text : List ℕ) (left : Option (List ℕ)) (n : ℕ) (begun piece : List ℕ) → IsStop status [] text (Stops listing n begun piece) → IsStop status [] text (Stopped left n begun piece)
+  stop_in_piece status text left n begun piece h = IsStop-map status [] text (Stops listing n begun piece) (Stopped left n begun piece) h (λ o stops. inl stops)
+
+  pub stop_at_end : (status : Status) (text : List ℕ) (left : Option (List ℕ)) (n : ℕ) (begun piece : List ℕ) → IsAtEnd left → piece ≡ [] → IsStop status [] text (Ends listing n begun) → IsStop status [] text (Stopped left n begun piece)
+  stop_at_end status text left n begun piece ended none h = IsStop-map status [] text (Ends listing n begun) (Stopped left n begun piece) h (λ o ends. inr (ended, none, ends))
+
+-- ---- counts
+
+counts_or : (status result : Status) (before after : Option (List ℕ)) (text : List ℕ) (g g' f f' : ℕ) → ((e : g' ≡ g) (e' : f' ≡ f) → Counts status g g' f f') → SaysOr status result before after text f f' → g' ≡ g → Counts result g g' f f'
+counts_or status result before after text g g' f f' fits (inl said) same = rw said.0 (fits same said.2)
+counts_or status result before after text g g' f f' fits (inr said) same = rw said.0 (same, said.2)
+
+-- the counts after last words
+pub counts_stop : (status result : Status) (old new : List ℕ) (P : Outcome → Type 0) (before after : Option (List ℕ)) (text : List ℕ) (g g' f f' : ℕ) → IsStop status old new P → Says status result before after text f f' → g' ≡ g → Counts result g g' f f'
+counts_stop (BadLine line reason) result old new P before after text g g' f f' stop says same = counts_or (BadLine line reason) result before after text g g' f f' (λ e e'. (e, e')) says same
+counts_stop TooLong result old new P before after text g g' f f' stop says same = counts_or TooLong result before after text g g' f f' (λ e e'. (e, e')) says same
+counts_stop NoMemory result old new P before after text g g' f f' stop says same = rw says.0 (same, says.2)
+counts_stop Done result old new P before after text g g' f f' stop says same = absurd stop
+counts_stop Usage result old new P before after text g g' f f' stop says same = absurd stop
+counts_stop ReadFault result old new P before after text g g' f f' stop says same = absurd stop
+counts_stop WriteFault result old new P before after text g g' f f' stop says same = absurd stop
+counts_stop DiskFault result old new P before after text g g' f f' stop says same = absurd stop
+counts_stop (DiskRefused reason) result old new P before after text g g' f f' stop says same = absurd stop
+counts_stop (Worn generation) result old new P before after text g g' f f' stop says same = absurd stop
+
+pub counts_done : (result : Status) (before after : Option (List ℕ)) (text : List ℕ) (g g' f f' : ℕ) → Says Done result before after text f f' → g' ≡ g → Counts result g g' f f'
+counts_done result before after text g g' f f' says same = counts_or Done result before after text g g' f f' (λ e e'. (e, e')) says same

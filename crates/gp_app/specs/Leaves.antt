@@ -1,0 +1,53 @@
+-- What a run leaves, by its status.
+use Rattle.std.specs.Prelude.{◌≡◌, ℕ, ◌⊎◌, List, ◌++◌, take, Option}
+use Rattle.std.specs.Io.KnownBytes.{Appends, Consumes, IsAtEnd}
+use Rattle.gp_base.specs.Outside.{Rose}
+use Rattle.gp_app.specs.declared.status.Status.{Status}
+use Rattle.gp_app.specs.declared.status.Status.TheVariants.{Done, BadLine, Usage, ReadFault, WriteFault, DiskFault, NoMemory, DiskRefused, Worn, TooLong}
+use Rattle.gp_app.specs.Outcome.{Outcome, outcome, complete}
+
+-- the first text is a front of the second
+abbrev pub IsFront : List ℕ → List ℕ → Type 0
+IsFront front text = (rest : List ℕ) × (text ≡ front ++ rest)
+
+-- the octets that were read decide the outcome: whatever would come after them, or since none is left
+abbrev pub Decides : (List ℕ → Option (List ℕ)) → Option (List ℕ) → List ℕ → Outcome → Type 0
+Decides listing left read decided =
+    ((rest : List ℕ) → outcome listing (read ++ rest) ≡ decided) ⊎ (IsAtEnd left × (outcome listing read ≡ decided))
+
+-- what was written, by the status: of what was read, and of what is left
+abbrev pub Fits : (List ℕ → Option (List ℕ)) → Status → Option (List ℕ) → List ℕ → List ℕ → Type 0
+Fits listing Done left read written = IsAtEnd left × (outcome listing read ≡ record { text = written; status = Done })
+Fits listing (BadLine line reason) left read written = Decides listing left read (record { text = written; status = BadLine line reason })
+Fits listing TooLong left read written = Decides listing left read (record { text = written; status = TooLong })
+Fits listing ReadFault left read written = outcome listing (complete read) ≡ record { text = written; status = Done }
+Fits listing WriteFault left read written = IsFront written (outcome listing read).text
+Fits listing NoMemory left read written = IsFront written (outcome listing read).text
+Fits listing Usage left read written = ⊥
+Fits listing DiskFault left read written = ⊥
+Fits listing (DiskRefused reason) left read written = ⊥
+Fits listing (Worn generation) left read written = ⊥
+
+-- Some octets were read and some written, and they fit the status.
+pub record Leaves (listing : List ℕ → Option (List ℕ)) (status : Status) (left_before left_after written_before written_after : Option (List ℕ)) : Type 0 where
+  pub read : List ℕ
+  pub written : List ℕ
+  pub consumed : Consumes left_before left_after read
+  pub appended : Appends written_before written_after written
+  pub fits : Fits listing status left_after read written
+
+-- The count of the object that a fault names rose, and every other count stands.
+abbrev pub Counts : Status → ℕ → ℕ → ℕ → ℕ → Type 0
+Counts ReadFault source_before source_after out_before out_after = Rose source_before source_after × (out_after ≡ out_before)
+Counts WriteFault source_before source_after out_before out_after = (source_after ≡ source_before) × Rose out_before out_after
+Counts _ source_before source_after out_before out_after = (source_after ≡ source_before) × (out_after ≡ out_before)
+
+-- A last text is written and the status answered, or a front of it and a write fault; where memory wasn't found, nothing is.
+abbrev pub SaysOr : Status → Status → Option (List ℕ) → Option (List ℕ) → List ℕ → ℕ → ℕ → Type 0
+SaysOr status result before after text faults_before faults_after =
+    ((result ≡ status) × Appends before after text × (faults_after ≡ faults_before))
+    ⊎ ((result ≡ WriteFault) × ((count : ℕ) × Appends before after (take count text)) × Rose faults_before faults_after)
+
+abbrev pub Says : Status → Status → Option (List ℕ) → Option (List ℕ) → List ℕ → ℕ → ℕ → Type 0
+Says NoMemory result before after text faults_before faults_after = (result ≡ NoMemory) × (after ≡ before) × (faults_after ≡ faults_before)
+Says status result before after text faults_before faults_after = SaysOr status result before after text faults_before faults_after

@@ -1,0 +1,5 @@
+pub mod Command
+pub mod Leaves
+pub mod Listing
+pub mod Outcome
+pub mod Stream

@@ -1,0 +1,29 @@
+//! The words of the command line.
+
+ghost use Rattle.std.specs.Prelude.{◌≡◌};
+ghost use Rattle.gp_app.specs.Command.{command_of};
+
+use gp_base::Word;
+
+/// What the words ask for.
+#[derive(Clone, Copy, PartialEq, Eq, Debug)]
+pub enum Command {
+    /// The listing of a capture.
+    Decode,
+}
+
+/// What these words ask for, and `None` where they are no form of the command line.
+pub fn read_command(words: &[Word]) -> Option<Command>
+    ensures { result ≡ command_of words.now }
+{
+    match words {
+        [word] => {
+            if word.as_slice() == b"decode".as_slice() {
+                Some(Command::Decode)
+            } else {
+                None
+            }
+        }
+        _ => None,
+    }
+}

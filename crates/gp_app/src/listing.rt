@@ -1,0 +1,207 @@
+//! The listing of a line of a capture.
+
+ghost use Rattle.std.specs.Prelude.{◌≡◌, ℕ, ◌≤◌, List, Option, [], ◌∷◌, ◌++◌, Some, None, length, IfSome, OnOk, OnErr, MatchResult};
+ghost use Rattle.std.specs.Option.{IsSomeAnd};
+ghost use Rattle.gp_frames.specs.Frame.{extension};
+ghost use Rattle.gp_frames.specs.Reading.{reading};
+ghost use Rattle.gp_app.specs.Listing.{kind_text, refusal_text, mac_text, auto_text, ext_text, src_text, counter_text, mic_text, header_text, body_text, frame_text, air_text, capture_text, listing};
+
+use crate::text::{push_field, push_hex, push_number, push_text};
+use gp_base::Src;
+use gp_frames::{Ext, FrameReason, Gpdf, Mpdu, decode};
+use gp_script::{Capture, read_capture};
+use std::alloc::AllocError;
+
+/// Why a line isn't listed.
+#[derive(Clone, Copy, PartialEq, Eq, Debug)]
+pub enum Unlisted {
+    /// It is no line of a capture.
+    Form,
+    /// Memory was asked for and not found.
+    NoMemory,
+}
+
+impl From<AllocError> for Unlisted {
+    ghost use Rattle.std.specs.Prelude.{◌≡◌};
+    ghost use Rattle.gp_app.specs.declared.listing.Unlisted.TheVariants.{NoMemory};
+
+    ghost from_gives = { λ _ e. e ≡ NoMemory };
+
+    fn from(_error: AllocError) -> Unlisted {
+        Unlisted::NoMemory
+    }
+}
+
+/// Adds the listing of a line, without a line end.
+#[tactic(auto, unfolding(crate::specs::Listing::listing))]
+pub fn push_listing(text: &mut Vec<u8>, line: &[u8]) -> Result<(), Unlisted>
+    requires { length line.now ≤ 1024 }
+    ensures ok { OnOk result (IsSomeAnd (listing line.now) (λ listed. text.new.items ≡ text.old.items ++ listed)) }
+    ensures form { result ≡ Err Unlisted.Form → listing line.now ≡ None }
+    ensures kept { result ≡ Err Unlisted.Form → text.new.items ≡ text.old.items }
+{
+    let Ok(capture) = read_capture(line) else {
+        return Err(Unlisted::Form);
+    };
+    push_capture(text, &capture)?;
+    Ok(())
+}
+
+fn push_capture(text: &mut Vec<u8>, capture: &Capture) -> Result<(), AllocError>
+    ensures { OnOk result (text.new.items ≡ text.old.items ++ capture_text capture.now) }
+{
+    match capture {
+        Capture::Frame(octets) => push_air(text, octets.as_slice()),
+        Capture::Message(_) => Ok(()),
+    }
+}
+
+#[tactic(auto, unfolding(crate::specs::Listing::air_text))]
+fn push_air(text: &mut Vec<u8>, octets: &[u8]) -> Result<(), AllocError>
+    ensures { OnOk result (text.new.items ≡ text.old.items ++ air_text (reading octets.now)) }
+{
+    match decode(octets) {
+        Ok(mpdu) => push_frame(text, &mpdu),
+        Err(reason) => push_refusal(text, reason),
+    }
+}
+
+#[tactic(auto, unfolding(crate::specs::Listing::refusal_text))]
+fn push_refusal(text: &mut Vec<u8>, reason: FrameReason) -> Result<(), AllocError>
+    ensures { OnOk result (text.new.items ≡ text.old.items ++ refusal_text reason) }
+{
+    let (name, place) = named(reason);
+    push_text(text, "bad ")?;
+    push_text(text, name)?;
+    push_text(text, " ")?;
+    push_number(text, u64::from(place))
+}
+
+// The name of a reason, and its place in the octets.
+fn named(reason: FrameReason) -> (&'static str, u8)
+    ensures name { result.0.now ≡ Rattle.gp_app.specs.Listing.reason_name reason }
+    ensures place { result.1 ≡ Rattle.gp_app.specs.Listing.reason_place reason }
+{
+    match reason {
+        FrameReason::TooLong => ("TooLong", 125),
+        FrameReason::Short { place } => ("Short", place),
+        FrameReason::MacForm => ("MacForm", 0),
+        FrameReason::FrameKind => ("FrameKind", 7),
+        FrameReason::Version => ("Version", 7),
+        FrameReason::AppId => ("AppId", 8),
+        FrameReason::LevelOne => ("LevelOne", 8),
+        FrameReason::SecuredMaintenance => ("SecuredMaintenance", 8),
+        FrameReason::NoCommand { place } => ("NoCommand", place),
+    }
+}
+
+#[tactic(auto, unfolding(crate::specs::Listing::frame_text))]
+fn push_frame(text: &mut Vec<u8>, mpdu: &Mpdu) -> Result<(), AllocError>
+    requires { IfSome mpdu.now.frame.ext (λ ext. ext.level ≤ 3) }
+    ensures { OnOk result (text.new.items ≡ text.old.items ++ frame_text mpdu.now) }
+{
+    push_mac(text, mpdu)?;
+    push_header(text, &mpdu.frame)?;
+    push_body(text, &mpdu.frame)
+}
+
+#[tactic(auto, unfolding(crate::specs::Listing::mac_text))]
+fn push_mac(text: &mut Vec<u8>, mpdu: &Mpdu) -> Result<(), AllocError>
+    ensures { OnOk result (text.new.items ≡ text.old.items ++ mac_text mpdu.now) }
+{
+    push_text(text, kind(mpdu.frame.maintenance))?;
+    push_field(text, " seq=", &[mpdu.seq])?;
+    push_field(text, " pan=", &mpdu.pan.to_be_bytes())?;
+    push_field(text, " dest=", &mpdu.dest.to_be_bytes())
+}
+
+fn kind(is_maintenance: bool) -> &'static str
+    ensures { result.now ≡ kind_text is_maintenance }
+{
+    if is_maintenance {
+        "maintenance"
+    } else {
+        "data"
+    }
+}
+
+#[tactic(auto, unfolding(crate::specs::Listing::header_text))]
+fn push_header(text: &mut Vec<u8>, frame: &Gpdf) -> Result<(), AllocError>
+    requires { IfSome frame.now.ext (λ ext. ext.level ≤ 3) }
+    ensures { OnOk result (text.new.items ≡ text.old.items ++ header_text frame.now) }
+{
+    push_auto(text, frame.auto)?;
+    push_ext(text, frame.ext)?;
+    push_src(text, frame.src)?;
+    push_counter(text, frame.counter)
+}
+
+#[tactic(auto, unfolding(crate::specs::Listing::auto_text))]
+fn push_auto(text: &mut Vec<u8>, auto: bool) -> Result<(), AllocError>
+    ensures { OnOk result (text.new.items ≡ text.old.items ++ auto_text auto) }
+{
+    push_text(text, if auto { " auto=1" } else { " auto=0" })
+}
+
+#[tactic(auto, unfolding(crate::specs::Listing::ext_text))]
+fn push_ext(text: &mut Vec<u8>, ext: Option<Ext>) -> Result<(), AllocError>
+    requires { IfSome ext (λ e. e.level ≤ 3) }
+    ensures { OnOk result (text.new.items ≡ text.old.items ++ ext_text ext) }
+{
+    match ext {
+        Some(ext) => push_field(text, " ext=", &[octet_of(ext)]),
+        None => push_text(text, " ext=-"),
+    }
+}
+
+// The octet that an extended frame control is sent as.
+fn octet_of(ext: Ext) -> u8
+    requires { ext.level ≤ 3 }
+    ensures { result ≡ extension ext }
+{
+    8 * ext.level
+        + 32 * u8::from(ext.individual)
+        + 64 * u8::from(ext.rx_after)
+        + 128 * u8::from(ext.to_device)
+}
+
+#[tactic(auto, unfolding(crate::specs::Listing::src_text))]
+fn push_src(text: &mut Vec<u8>, src: Option<Src>) -> Result<(), AllocError>
+    ensures { OnOk result (text.new.items ≡ text.old.items ++ src_text src) }
+{
+    match src {
+        Some(src) => push_field(text, " src=", &src.0.to_be_bytes()),
+        None => push_text(text, " src=-"),
+    }
+}
+
+#[tactic(auto, unfolding(crate::specs::Listing::counter_text))]
+fn push_counter(text: &mut Vec<u8>, counter: Option<u32>) -> Result<(), AllocError>
+    ensures { OnOk result (text.new.items ≡ text.old.items ++ counter_text counter) }
+{
+    match counter {
+        Some(counter) => {
+            push_text(text, " counter=")?;
+            push_number(text, u64::from(counter))
+        }
+        None => push_text(text, " counter=-"),
+    }
+}
+
+#[tactic(auto, unfolding(crate::specs::Listing::body_text))]
+fn push_body(text: &mut Vec<u8>, frame: &Gpdf) -> Result<(), AllocError>
+    ensures { OnOk result (text.new.items ≡ text.old.items ++ body_text frame.now) }
+{
+    push_field(text, " body=", frame.body.as_slice())?;
+    push_mic(text, &frame.mic)
+}
+
+#[tactic(auto, unfolding(crate::specs::Listing::mic_text))]
+fn push_mic(text: &mut Vec<u8>, mic: &Option<[u8; 4]>) -> Result<(), AllocError>
+    ensures { OnOk result (text.new.items ≡ text.old.items ++ mic_text mic.now) }
+{
+    match mic {
+        Some(mic) => push_field(text, " mic=", mic),
+        None => push_text(text, " mic=-"),
+    }
+}

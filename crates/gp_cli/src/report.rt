@@ -1,0 +1,78 @@
+//! What the program says of its status.
+
+use gp_app::{DiskReason, Status};
+use gp_script::LineReason;
+use std::fmt;
+use std::fmt::{Display, Formatter};
+
+/// The exit status of the process: 0 to 9 in the order of the variants.
+pub fn exit_number(status: Status) -> u8 {
+    match status {
+        Status::Done => 0,
+        Status::BadLine { .. } => 1,
+        Status::Usage => 2,
+        Status::ReadFault => 3,
+        Status::WriteFault => 4,
+        Status::DiskFault => 5,
+        Status::NoMemory => 6,
+        Status::DiskRefused(_) => 7,
+        Status::Worn { .. } => 8,
+        Status::TooLong => 9,
+    }
+}
+
+/// Says on standard error how the run ended, where it isn't Done.
+pub fn report(rt: &impl Eprint, status: Status) {
+    if !matches!(status, Status::Done) {
+        let _ = rt.eprintln(Text(status));
+    }
+}
+
+// The text of a status.
+#[derive(Clone, Copy)]
+struct Text(Status);
+
+impl Display for Text {
+    fn fmt<W: fmt::Write>(&self, f: &mut Formatter<W>) -> fmt::Result {
+        match self.0 {
+            Status::Done => write!(f, "gp: done"),
+            Status::BadLine { line, reason } => {
+                let name = reason_name(reason);
+                write!(f, "gp: bad line {line}: {name}")
+            }
+            Status::Usage => write!(f, "gp: usage"),
+            Status::ReadFault => write!(f, "gp: read fault"),
+            Status::WriteFault => write!(f, "gp: write fault"),
+            Status::DiskFault => write!(f, "gp: disk fault"),
+            Status::NoMemory => write!(f, "gp: no memory"),
+            Status::DiskRefused(DiskReason::SlotForm { slot }) => {
+                write!(f, "gp: disk refused: SlotForm {slot}")
+            }
+            Status::DiskRefused(reason) => {
+                let name = disk_reason_name(reason);
+                write!(f, "gp: disk refused: {name}")
+            }
+            Status::Worn { generation } => write!(f, "gp: worn at {generation}"),
+            Status::TooLong => write!(f, "gp: too long"),
+        }
+    }
+}
+
+fn reason_name(reason: LineReason) -> &'static str {
+    match reason {
+        LineReason::Form => "Form",
+        LineReason::Taken => "Taken",
+        LineReason::Many => "Many",
+        LineReason::Absent => "Absent",
+        LineReason::Missing => "Missing",
+    }
+}
+
+fn disk_reason_name(reason: DiskReason) -> &'static str {
+    match reason {
+        DiskReason::DiskShort => "DiskShort",
+        DiskReason::NotFormatted => "NotFormatted",
+        DiskReason::AlreadyFormatted => "AlreadyFormatted",
+        DiskReason::SlotForm { .. } => "SlotForm",
+    }
+}

@@ -1,0 +1,12 @@
+//! Frames of Green Power devices, read from octets.
+//! To the layer above, `decode` answers a value exactly where the octets are its spelling, and else the
+//! first reason from the left why they are none.
+//! The contracts cite `Frame`, the relation between a value and its octets, and `first_reason`, the table of
+//! reasons.
+#![tactic(auto)]
+
+mod decoding;
+mod frame;
+
+pub use decoding::decode;
+pub use frame::{Ext, FrameReason, Gpdf, Mpdu};
