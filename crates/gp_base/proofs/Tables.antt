@@ -13,3 +13,19 @@ pub first_of-append-none : {A : Type 0} (front back : List (Bool × A)) → firs
 first_of-append-none [] back h = refl
 first_of-append-none ((true, a) ∷ front) back h = absurd cc
 first_of-append-none ((false, a) ∷ front) back h = first_of-append-none front back h
+
+-- where no test of two tables holds, none of either does
+pub first_of-append-both : {A : Type 0} (front back : List (Bool × A)) → first_of (front ++ back) ≡ None → (first_of front ≡ None) × (first_of back ≡ None)
+first_of-append-both [] back h = (refl, h)
+first_of-append-both ((true, a) ∷ front) back h = absurd cc
+first_of-append-both ((false, a) ∷ front) back h = first_of-append-both front back h
+
+-- no test of a table holds
+abbrev pub AreFalse : {A : Type 0} → List (Bool × A) → Type 0
+AreFalse [] = Unit {0}
+AreFalse (line ∷ lines) = (line.0 ≡ false) × AreFalse lines
+
+pub first_of-none : {A : Type 0} (lines : List (Bool × A)) → first_of lines ≡ None → AreFalse lines
+first_of-none [] h = tt
+first_of-none ((true, a) ∷ lines) h = absurd cc
+first_of-none ((false, a) ∷ lines) h = (refl, first_of-none lines h)

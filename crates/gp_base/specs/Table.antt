@@ -20,3 +20,13 @@ let_else (Some value) otherwise rest = rest value
 abbrev pub let_ok : {A B E : Type 0} → Result A E → (E → B) → (A → B) → B
 let_ok (Ok value) otherwise rest = rest value
 let_ok (Err error) otherwise rest = otherwise error
+
+-- the reason, or where there is none the value
+abbrev pub answer : {A E : Type 0} → Option E → A → Result A E
+answer None value = Ok value
+answer (Some reason) value = Err reason
+
+-- the first of two reasons
+abbrev pub or_else : {A : Type 0} → Option A → Option A → Option A
+or_else None second = second
+or_else (Some first) second = Some first

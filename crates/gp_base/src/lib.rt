@@ -5,6 +5,7 @@
 //! The contracts cite `Outside` for those two, `Fake` for the ones in memory and `Walk` for the reader.
 #![tactic(auto)]
 
+pub mod field;
 mod identity;
 mod memory_out;
 mod memory_source;

@@ -1,8 +1,8 @@
 -- Which octets spell a frame (IEEE 802.15.4, 7.2; Zigbee PRO Green Power, A.1.4.1).
-use Rattle.std.specs.Prelude.{◌≡◌, ℕ, ◌+◌, ◌*◌, ◌^◌, ◌<◌, ◌≤◌, ◌⊎◌, Bool, not, ◌||◌, List, [], ◌∷◌, ◌++◌, length, IsTrue, IfSome, is_some, nat_lt}
+use Rattle.std.specs.Prelude.{◌≡◌, ℕ, ◌+◌, ◌*◌, ◌^◌, ◌<◌, ◌≤◌, ◌⊎◌, Bool, not, ◌||◌, List, [], ◌∷◌, length, IsTrue, IfSome, is_some, nat_lt}
 use Rattle.std.specs.Option.{option_map_or}
 use Rattle.std.specs.Int.{w16, w32, to_le_bytes}
-use Rattle.gp_base.specs.Field.{IsOctets, flag, optional}
+use Rattle.gp_base.specs.Field.{IsOctets, flag, joined, octet, optional}
 use Rattle.gp_frames.specs.declared.frame.Ext.{Ext}
 use Rattle.gp_frames.specs.declared.frame.Gpdf.{Gpdf}
 use Rattle.gp_frames.specs.declared.frame.Mpdu.{Mpdu}
@@ -25,15 +25,18 @@ extension ext = 8 * ext.level + 32 * flag ext.individual + 64 * flag ext.rx_afte
 
 -- the fields of a frame one after the other
 abbrev pub spelling : Mpdu → List ℕ
-spelling mpdu = (1 ∷ 8 ∷ mpdu.seq ∷ [])
-    ++ to_le_bytes w16 mpdu.pan
-    ++ to_le_bytes w16 mpdu.dest
-    ++ (control mpdu.frame ∷ [])
-    ++ optional (λ ext. extension ext ∷ []) mpdu.frame.ext
-    ++ optional (λ src. to_le_bytes w32 src.0) mpdu.frame.src
-    ++ optional (to_le_bytes w32) mpdu.frame.counter
-    ++ mpdu.frame.body
-    ++ optional (λ mic. mic) mpdu.frame.mic
+spelling mpdu =
+    joined
+    ((1 ∷ 8 ∷ mpdu.seq ∷ [])
+    ∷ to_le_bytes w16 mpdu.pan
+    ∷ to_le_bytes w16 mpdu.dest
+    ∷ octet (control mpdu.frame)
+    ∷ optional (λ ext. octet (extension ext)) mpdu.frame.ext
+    ∷ optional (λ src. to_le_bytes w32 src.0) mpdu.frame.src
+    ∷ optional (to_le_bytes w32) mpdu.frame.counter
+    ∷ mpdu.frame.body
+    ∷ optional (λ mic. mic) mpdu.frame.mic
+    ∷ [])
 
 -- which frames have a spelling
 pub record IsFrame (frame : Gpdf) : Type 0 where

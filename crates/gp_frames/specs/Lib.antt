@@ -1,3 +1,4 @@
 pub mod Frame
 pub mod Reasons
 pub mod Reading
+pub mod Shape

@@ -1,27 +1,23 @@
 -- Why octets are no frame: the first of a table of conditions on places.
-use Rattle.std.specs.Prelude.{ℕ, ◌+◌, ◌/◌, ◌%◌, Bool, not, ◌&&◌, ◌||◌, ◌==◌, nat_lt, nat_le, if◌then◌else◌, List, [], ◌∷◌, ◌++◌, length, Option, slice_index}
-use Rattle.gp_base.specs.Field.{has_bit}
+use Rattle.std.specs.Prelude.{ℕ, ◌+◌, ◌/◌, ◌%◌, Bool, not, ◌&&◌, ◌||◌, ◌==◌, nat_lt, nat_le, if◌then◌else◌, List, [], ◌∷◌, ◌++◌, length, Option}
+use Rattle.gp_base.specs.Field.{has_bit, octet_at, size_if}
 use Rattle.gp_base.specs.Table.{first_of}
 use Rattle.gp_frames.specs.declared.frame.FrameReason.{FrameReason}
 use Rattle.gp_frames.specs.declared.frame.FrameReason.TheVariants.{TooLong, Short, MacForm, FrameKind, Version, AppId, LevelOne, SecuredMaintenance, NoCommand}
 
--- the octet at a place, 0 past the end
-abbrev pub octet : List ℕ → ℕ → ℕ
-octet octets place = slice_index octets place
-
 -- bits 0-1, 2-5 and 7 of the NWK frame control
 abbrev pub type_at : List ℕ → ℕ
-type_at octets = octet octets 7 % 4
+type_at octets = octet_at octets 7 % 4
 
 abbrev pub version_at : List ℕ → ℕ
-version_at octets = octet octets 7 / 4 % 16
+version_at octets = octet_at octets 7 / 4 % 16
 
 abbrev pub is_extended : List ℕ → Bool
-is_extended octets = has_bit (octet octets 7) 128
+is_extended octets = has_bit (octet_at octets 7) 128
 
 -- the extended frame control, which counts as 0 where it is absent
 abbrev pub extension_at : List ℕ → ℕ
-extension_at octets = if is_extended octets then octet octets 8 else 0
+extension_at octets = if is_extended octets then octet_at octets 8 else 0
 
 abbrev pub application_at : List ℕ → ℕ
 application_at octets = extension_at octets % 8
@@ -29,26 +25,33 @@ application_at octets = extension_at octets % 8
 abbrev pub level_at : List ℕ → ℕ
 level_at octets = extension_at octets / 8 % 4
 
--- how many octets the extension, the SrcID, and the counter or the MIC have
-abbrev pub extension_size : List ℕ → ℕ
-extension_size octets = if is_extended octets then 1 else 0
+-- whether there is a SrcID, and whether there are a counter and a MIC
+abbrev pub has_src : List ℕ → Bool
+has_src octets = (type_at octets == 0) || is_extended octets
 
-abbrev pub src_size : List ℕ → ℕ
-src_size octets = if (type_at octets == 0) || is_extended octets then 4 else 0
+abbrev pub has_security : List ℕ → Bool
+has_security octets = nat_le 2 (level_at octets)
 
-abbrev pub security_size : List ℕ → ℕ
-security_size octets = if nat_le 2 (level_at octets) then 4 else 0
+-- where the SrcID, the counter and the command begin
+abbrev pub src_place : List ℕ → ℕ
+src_place octets = 8 + size_if (is_extended octets) 1
 
--- where the command begins
+abbrev pub counter_place : List ℕ → ℕ
+counter_place octets = src_place octets + size_if (has_src octets) 4
+
 abbrev pub command_place : List ℕ → ℕ
-command_place octets = 8 + extension_size octets + src_size octets + security_size octets
+command_place octets = counter_place octets + size_if (has_security octets) 4
+
+-- how many octets the MIC has
+abbrev pub mic_size : List ℕ → ℕ
+mic_size octets = size_if (has_security octets) 4
 
 -- the MAC header
 unfoldable pub mac_lines : List ℕ → List (Bool × FrameReason)
 mac_lines octets =
     (nat_lt 125 (length octets), TooLong)
     ∷ (nat_lt (length octets) 2, Short (length octets))
-    ∷ (not ((octet octets 0 == 1) && (octet octets 1 == 8)), MacForm)
+    ∷ (not ((octet_at octets 0 == 1) && (octet_at octets 1 == 8)), MacForm)
     ∷ (nat_lt (length octets) 8, Short (length octets))
     ∷ []
 
@@ -65,14 +68,14 @@ unfoldable pub extension_lines : List ℕ → List (Bool × FrameReason)
 extension_lines octets =
     (not (application_at octets == 0), AppId)
     ∷ (level_at octets == 1, LevelOne)
-    ∷ ((type_at octets == 1) && nat_le 2 (level_at octets), SecuredMaintenance)
+    ∷ ((type_at octets == 1) && has_security octets, SecuredMaintenance)
     ∷ []
 
 -- the fields behind it, the command and the MIC
 unfoldable pub field_lines : List ℕ → List (Bool × FrameReason)
 field_lines octets =
-    (nat_lt (length octets) (command_place octets + security_size octets), Short (length octets))
-    ∷ (length octets == command_place octets + security_size octets, NoCommand (command_place octets))
+    (nat_lt (length octets) (command_place octets + mic_size octets), Short (length octets))
+    ∷ (length octets == command_place octets + mic_size octets, NoCommand (command_place octets))
     ∷ []
 
 -- the first fault from the left, where there is one

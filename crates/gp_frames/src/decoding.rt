@@ -1,10 +1,13 @@
 //! Reading a frame.
 
-ghost use Rattle.std.specs.Prelude.{◌≡◌, ◌+◌, ◌<◌, ◌≤◌, Bool, List, length, IsTrue, IfNone, IfSome, IfOk, IfErr};
-ghost use Rattle.gp_base.specs.Field.{two_at, four_at};
+ghost use Rattle.std.specs.Prelude.{◌≡◌, ◌+◌, ◌<◌, ◌≤◌, Bool, List, Ok, Err, Some, length, IsTrue, IfNone, IfSome, IfOk, IfErr};
+ghost use Rattle.gp_base.specs.Field.{two_at, four_at, size_if};
 ghost use Rattle.gp_base.specs.Table.{first_of};
+ghost use Rattle.gp_frames.specs.declared.frame.Mpdu.{Mpdu};
+ghost use Rattle.gp_frames.specs.declared.frame.FrameReason.{FrameReason};
 ghost use Rattle.gp_frames.specs.Frame.{Frame};
-ghost use Rattle.gp_frames.specs.Reasons.{type_at, is_extended, extension_at, level_at, extension_size, src_size, security_size, command_place, mac_lines, control_lines, extension_lines, field_lines, first_reason};
+ghost use Rattle.gp_frames.specs.Reasons.{type_at, is_extended, extension_at, level_at, counter_place, command_place, mic_size, mac_lines, control_lines, extension_lines, field_lines, first_reason};
+ghost use Rattle.gp_frames.specs.Shape.{IsShape};
 ghost use Rattle.gp_frames.specs.Reading.{ext_at, src_at, counter_at, mic_at, body_at, frame_at, value_at, reading};
 
 use crate::frame::{Ext, FrameReason, Gpdf, Mpdu};
@@ -12,8 +15,23 @@ use gp_base::{Octets, Src};
 
 /// Reads one MPDU (IEEE 802.15.4, 7.2; Zigbee PRO Green Power, A.1.4.1). Numbers of more than one octet
 /// are least significant octet first. The reason of a refusal is the first fault from the left.
-#[tactic(auto, unfolding(crate::specs::Reading::reading))]
 pub fn decode(octets: &[u8]) -> Result<Mpdu, FrameReason>
+    // What is read is spelled so.
+    ensures found { IfOk result (λ mpdu. Frame mpdu octets.now) }
+    // What is spelled so is read.
+    ensures only { (mpdu : Mpdu) → Frame mpdu octets.now → result ≡ Ok mpdu }
+    // A refusal has the first reason, and each reason is a refusal.
+    ensures refused { IfErr result (λ reason. first_reason octets.now ≡ Some reason) }
+    ensures reason { (reason : FrameReason) → first_reason octets.now ≡ Some reason → result ≡ Err reason }
+    // What it gives, by places.
+    ensures exact { result ≡ reading octets.now }
+    ensures level { IfOk result (λ mpdu. IfSome mpdu.frame.ext (λ ext. ext.level ≤ 3)) }
+{
+    read(octets)
+}
+
+#[tactic(auto, unfolding(crate::specs::Reading::reading))]
+fn read(octets: &[u8]) -> Result<Mpdu, FrameReason>
     ensures exact { result ≡ reading octets.now }
     ensures level { IfOk result (λ mpdu. IfSome mpdu.frame.ext (λ ext. ext.level ≤ 3)) }
 {
@@ -29,7 +47,7 @@ fn refusal(octets: &[u8]) -> Option<FrameReason>
     ensures value { result ≡ first_reason octets.now }
     ensures long { IfNone result (8 ≤ length octets.now) }
     ensures longer { IfNone result (IsTrue (is_extended octets.now) → 9 ≤ length octets.now) }
-    ensures enough { IfNone result (command_place octets.now + security_size octets.now < length octets.now) }
+    ensures enough { IfNone result (command_place octets.now + mic_size octets.now < length octets.now) }
     ensures within { IfNone result (length octets.now ≤ 125) }
 {
     if let Some(reason) = mac_refusal(octets) {
@@ -124,43 +142,50 @@ fn extension_refusal(octets: &[u8]) -> Option<FrameReason>
     None
 }
 
-// The sizes of the fields before the command.
+// Which fields a frame has.
 #[derive(Clone, Copy)]
-struct Sizes {
-    extension: usize,
-    src: usize,
-    security: usize,
+struct Shape {
+    is_extended: bool,
+    has_src: bool,
+    has_security: bool,
 }
 
-impl Sizes {
-    // Where the command begins.
-    fn command_place(self) -> usize
-        requires small { self.extension ≤ 1 }
-        requires src { self.src ≤ 4 }
-        requires security { self.security ≤ 4 }
-        ensures { result ≡ 8 + self.extension + self.src + self.security }
+impl Shape {
+    fn src_place(self) -> usize
+        ensures { result ≡ 8 + size_if self.is_extended 1 }
     {
-        8 + self.extension + self.src + self.security
+        if self.is_extended { 9 } else { 8 }
+    }
+
+    fn counter_place(self) -> usize
+        ensures { result ≡ (8 + size_if self.is_extended 1) + size_if self.has_src 4 }
+    {
+        self.src_place() + if self.has_src { 4 } else { 0 }
+    }
+
+    fn command_place(self) -> usize
+        ensures { result ≡ ((8 + size_if self.is_extended 1) + size_if self.has_src 4) + size_if self.has_security 4 }
+    {
+        self.counter_place() + self.mic_size()
+    }
+
+    fn mic_size(self) -> usize
+        ensures { result ≡ size_if self.has_security 4 }
+    {
+        if self.has_security { 4 } else { 0 }
     }
 }
 
-fn sizes_of(octets: &[u8]) -> Sizes
+fn shape_of(octets: &[u8]) -> Shape
     requires long { 8 ≤ length octets.now }
     requires longer { IsTrue (is_extended octets.now) → 9 ≤ length octets.now }
-    ensures extension { result.extension ≡ extension_size octets.now }
-    ensures src { result.src ≡ src_size octets.now }
-    ensures security { result.security ≡ security_size octets.now }
+    ensures { IsShape result octets.now }
 {
     let is_extended = is_with_extension(octets);
-    let level = extension(octets) / 8 % 4;
-    Sizes {
-        extension: if is_extended { 1 } else { 0 },
-        src: if octets[7] % 4 == 0 || is_extended {
-            4
-        } else {
-            0
-        },
-        security: if level >= 2 { 4 } else { 0 },
+    Shape {
+        is_extended,
+        has_src: octets[7] % 4 == 0 || is_extended,
+        has_security: extension(octets) / 8 % 4 >= 2,
     }
 }
 
@@ -170,11 +195,11 @@ fn field_refusal(octets: &[u8]) -> Option<FrameReason>
     requires longer { IsTrue (is_extended octets.now) → 9 ≤ length octets.now }
     requires within { length octets.now ≤ 125 }
     ensures value { result ≡ first_of (field_lines octets.now) }
-    ensures enough { IfNone result (command_place octets.now + security_size octets.now < length octets.now) }
+    ensures enough { IfNone result (command_place octets.now + mic_size octets.now < length octets.now) }
 {
-    let sizes = sizes_of(octets);
-    let command = sizes.command_place();
-    let end = command + sizes.security;
+    let shape = shape_of(octets);
+    let command = shape.command_place();
+    let end = command + shape.mic_size();
     if octets.len() < end {
         let place = octets.len() as u8;
         return Some(FrameReason::Short { place });
@@ -205,7 +230,7 @@ fn u32_at(octets: &[u8], at: usize) -> u32
 fn value(octets: &[u8]) -> Mpdu
     requires long { 8 ≤ length octets.now }
     requires longer { IsTrue (is_extended octets.now) → 9 ≤ length octets.now }
-    requires enough { command_place octets.now + security_size octets.now < length octets.now }
+    requires enough { command_place octets.now + mic_size octets.now < length octets.now }
     requires within { length octets.now ≤ 125 }
     ensures value { result ≡ value_at octets.now }
     ensures level { IfSome result.frame.ext (λ ext. ext.level ≤ 3) }
@@ -222,20 +247,20 @@ fn value(octets: &[u8]) -> Mpdu
 fn frame(octets: &[u8]) -> Gpdf
     requires long { 8 ≤ length octets.now }
     requires longer { IsTrue (is_extended octets.now) → 9 ≤ length octets.now }
-    requires enough { command_place octets.now + security_size octets.now < length octets.now }
+    requires enough { command_place octets.now + mic_size octets.now < length octets.now }
     requires within { length octets.now ≤ 125 }
     ensures value { result ≡ frame_at octets.now }
     ensures level { IfSome result.ext (λ ext. ext.level ≤ 3) }
 {
-    let sizes = sizes_of(octets);
+    let shape = shape_of(octets);
     Gpdf {
         maintenance: octets[7] % 4 == 1,
         auto: octets[7] / 64 % 2 == 1,
         ext: ext(octets),
-        src: src(octets, sizes),
-        counter: counter(octets, sizes),
-        body: body(octets, sizes),
-        mic: mic(octets, sizes),
+        src: src(octets, shape),
+        counter: counter(octets, shape),
+        body: body(octets, shape),
+        mic: mic(octets, shape),
     }
 }
 
@@ -259,55 +284,51 @@ fn ext(octets: &[u8]) -> Option<Ext>
 }
 
 #[tactic(auto, unfolding(crate::specs::Reading::src_at))]
-fn src(octets: &[u8], sizes: Sizes) -> Option<Src>
-    requires enough { 8 + sizes.extension + sizes.src ≤ length octets.now }
-    requires extension { sizes.extension ≡ extension_size octets.now }
-    requires src { sizes.src ≡ src_size octets.now }
+fn src(octets: &[u8], shape: Shape) -> Option<Src>
+    requires enough { counter_place octets.now ≤ length octets.now }
+    requires shape { IsShape shape octets.now }
     ensures { result ≡ src_at octets.now }
 {
-    if sizes.src == 0 {
+    if !shape.has_src {
         return None;
     }
-    Some(Src(u32_at(octets, 8 + sizes.extension)))
+    Some(Src(u32_at(octets, shape.src_place())))
 }
 
 #[tactic(auto, unfolding(crate::specs::Reading::counter_at))]
-fn counter(octets: &[u8], sizes: Sizes) -> Option<u32>
-    requires enough { 8 + sizes.extension + sizes.src + sizes.security ≤ length octets.now }
-    requires extension { sizes.extension ≡ extension_size octets.now }
-    requires src { sizes.src ≡ src_size octets.now }
-    requires security { sizes.security ≡ security_size octets.now }
+fn counter(octets: &[u8], shape: Shape) -> Option<u32>
+    requires enough { command_place octets.now ≤ length octets.now }
+    requires shape { IsShape shape octets.now }
     ensures { result ≡ counter_at octets.now }
 {
-    if sizes.security == 0 {
+    if !shape.has_security {
         return None;
     }
-    Some(u32_at(octets, 8 + sizes.extension + sizes.src))
+    Some(u32_at(octets, shape.counter_place()))
 }
 
 #[tactic(auto, unfolding(crate::specs::Reading::body_at))]
-fn body(octets: &[u8], sizes: Sizes) -> Octets
+fn body(octets: &[u8], shape: Shape) -> Octets
     requires within { length octets.now ≤ 125 }
-    requires enough { 8 + sizes.extension + sizes.src + sizes.security + sizes.security ≤ length octets.now }
-    requires extension { sizes.extension ≡ extension_size octets.now }
-    requires src { sizes.src ≡ src_size octets.now }
-    requires security { sizes.security ≡ security_size octets.now }
+    requires enough { command_place octets.now + mic_size octets.now ≤ length octets.now }
+    requires shape { IsShape shape octets.now }
     ensures { result ≡ body_at octets.now }
 {
-    let start = 8 + sizes.extension + sizes.src + sizes.security;
-    match Octets::of(&octets[start..octets.len() - sizes.security]) {
+    let start = shape.command_place();
+    let end = octets.len() - shape.mic_size();
+    match Octets::of(&octets[start..end]) {
         Some(body) => body,
         None => unreachable!(),
     }
 }
 
 #[tactic(auto, unfolding(crate::specs::Reading::mic_at))]
-fn mic(octets: &[u8], sizes: Sizes) -> Option<[u8; 4]>
+fn mic(octets: &[u8], shape: Shape) -> Option<[u8; 4]>
     requires enough { 4 ≤ length octets.now }
-    requires security { sizes.security ≡ security_size octets.now }
+    requires shape { IsShape shape octets.now }
     ensures { result ≡ mic_at octets.now }
 {
-    if sizes.security == 0 {
+    if !shape.has_security {
         return None;
     }
     let at = octets.len() - 4;
