@@ -1,5 +1,5 @@
 -- Fields of a format, spelled out and at their places. Numbers stand least significant octet first.
-use Rattle.std.specs.Prelude.{◌≡◌, ℕ, ◌+◌, ◌<◌, ◌/◌, ◌%◌, ◌==◌, Bool, true, false, List, [], ◌∷◌, ◌++◌, length, Option, Some, None, take, drop, slice_index, if◌then◌else◌}
+use Rattle.std.specs.Prelude.{◌≡◌, ℕ, ◌+◌, ◌<◌, ◌/◌, ◌%◌, ◌==◌, Bool, true, false, not, List, [], ◌∷◌, ◌++◌, length, Option, Some, None, take, drop, slice_index, if◌then◌else◌}
 use Rattle.std.specs.Option.{MatchOption}
 use Rattle.std.specs.Int.{w16, w32, from_le_bytes}
 use Rattle.gp_base.specs.declared.identity.Key.{Key}
@@ -27,6 +27,11 @@ four_at octets at = from_le_bytes w32 (slice_index octets at ∷ slice_index oct
 abbrev pub flag : Bool → ℕ
 flag false = 0
 flag true = 1
+
+-- two answers are the same
+abbrev pub agree : Bool → Bool → Bool
+agree true answer = answer
+agree false answer = not answer
 
 -- whether the bit of this weight, 1, 2, 4, .., is set
 abbrev pub has_bit : ℕ → ℕ → Bool

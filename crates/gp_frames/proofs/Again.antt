@@ -4,7 +4,7 @@ use Rattle.std.specs.Prelude.{IsTrue, IfSome, is_some}
 use Rattle.std.specs.Option.{option_map_or}
 use Rattle.std.specs.Int.{w32, to_le_bytes}
 use Rattle.std.proofs.lemmas.List.{take_all, length-drop}
-use Rattle.gp_base.specs.Field.{IsOctets, part, flag, has_bit, octet, octet_at, two_at, four_at, optional, size_if, value_if}
+use Rattle.gp_base.specs.Field.{part, flag, has_bit, octet, octet_at, two_at, four_at, optional, size_if, value_if}
 use Rattle.gp_base.specs.declared.identity.Src.{Src}
 use Rattle.gp_base.proofs.Codec.{At, At-after, At-taken, At-octet, number16_codec, number32_codec, optional_codec}
 use Rattle.gp_frames.specs.declared.frame.Ext.{Ext}
@@ -72,13 +72,13 @@ unsecured_is : (m : Bool) (n : ℕ) → (IsTrue m → n ≡ 0) → (m && leb 2 n
 unsecured_is true n h = rw (h refl) refl
 unsecured_is false n h = refl
 
-mic_again : (b : List ℕ) (p : ℕ) (there : Bool) (o : Option (List ℕ)) → is_some o ≡ there → IfSome o (λ mic. IsOctets mic × (length mic ≡ 4)) → At b p (optional (λ (mic : List ℕ). mic) o)
+mic_again : (b : List ℕ) (p : ℕ) (there : Bool) (o : Option (List ℕ)) → is_some o ≡ there → IfSome o (λ mic. length mic ≡ 4) → At b p (optional (λ (mic : List ℕ). mic) o)
     → (value_if there (part b (length b - 4) 4) ≡ o) × (length b ≡ p + size_if there 4)
 mic_again b p true (Some mic) e fit at =
-    let len : length b - p ≡ 4 = sym (length-drop p b) ∙ ap length at.rest ∙ fit.1 in
+    let len : length b - p ≡ 4 = sym (length-drop p b) ∙ ap length at.rest ∙ fit in
     let total : length b ≡ p + 4 = omega (arith, len, at.within) in
     let place : length b - 4 ≡ p = omega (arith, total) in
-    (ap (λ (xs : List ℕ). Some xs) (ap (λ (k : ℕ). take 4 (drop k b)) place ∙ ap (take 4) at.rest ∙ take_all 4 mic (omega (arith, fit.1))), total)
+    (ap (λ (xs : List ℕ). Some xs) (ap (λ (k : ℕ). take 4 (drop k b)) place ∙ ap (take 4) at.rest ∙ take_all 4 mic (omega (arith, fit))), total)
 mic_again b p true None e fit at = absurd cc
 mic_again b p false (Some mic) e fit at = absurd cc
 mic_again b p false None e fit at =

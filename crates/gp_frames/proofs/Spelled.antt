@@ -6,7 +6,7 @@ use Rattle.std.proofs.lemmas.Bool.{eqb-false, leb-false}
 use Rattle.std.proofs.lemmas.List.{take_all, drop_all, length-drop}
 use Rattle.gp_base.specs.Field.{IsOctets, part, flag, has_bit, octet, octet_at, two_at, four_at, optional, size_if, value_if}
 use Rattle.gp_base.specs.declared.identity.Src.{Src}
-use Rattle.gp_base.proofs.Codec.{IsOctets-drop, IsOctets-take, split_octet, split_octets, length-octets_at, join, IsCodec, IsField, number16_codec, number32_codec, optional_codec}
+use Rattle.gp_base.proofs.Codec.{split_octet, split_octets, length-octets_at, join, IsCodec, IsField, number16_codec, number32_codec, optional_codec}
 use Rattle.gp_frames.specs.declared.frame.Ext.{Ext}
 use Rattle.gp_frames.specs.Frame.{level_of, control, extension, spelling, IsFrame, Frame}
 use Rattle.gp_frames.specs.Reasons.{type_at, is_extended, level_at, has_src, has_security, src_place, counter_place, command_place, mic_size, first_reason}
@@ -63,9 +63,9 @@ low_level n true none e ne =
     omega (arith, below, other)
 low_level n false none e ne = absurd cc
 
-mic_fit : (there : Bool) (b : List ℕ) → IsOctets b → size_if there 4 ≤ length b → IfSome (value_if there (part b (length b - 4) 4)) (λ mic. IsOctets mic × (length mic ≡ 4))
-mic_fit true b bytes enough = (IsOctets-take 4 (drop (length b - 4) b) (IsOctets-drop (length b - 4) b bytes), length-octets_at 4 b (length b - 4) (omega arith))
-mic_fit false b bytes enough = tt
+mic_fit : (there : Bool) (b : List ℕ) → size_if there 4 ≤ length b → IfSome (value_if there (part b (length b - 4) 4)) (λ mic. length mic ≡ 4)
+mic_fit true b enough = length-octets_at 4 b (length b - 4) (omega arith)
+mic_fit false b enough = tt
 
 -- an octet at its place
 cell : (b : List ℕ) (p x : ℕ) (rest : List ℕ) → p < length b → octet_at b p ≡ x → drop (p + 1) b ≡ rest → drop p b ≡ x ∷ rest
@@ -98,8 +98,7 @@ module _ (b : List ℕ) (bytes : IsOctets b) (f : IsFaultless b) where
     command = omega (arith, length-octets_at (length b - mic_size b - command_place b) b (command_place b) (omega (arith, f.enough)), f.enough);
     src_fits = src_field.1.fit;
     counter_fits = counter_field.1.fit;
-    body_fits = IsOctets-take (length b - mic_size b - command_place b) (drop (command_place b) b) (IsOctets-drop (command_place b) b bytes);
-    mic_fits = mic_fit (has_security b) b bytes (omega (arith, f.enough));
+    mic_fits = mic_fit (has_security b) b (omega (arith, f.enough));
   }
 
   application_is : (there : Bool) → is_extended b ≡ there → cond there (octet_at b 8) 0 % 8 ≡ 0
@@ -138,5 +137,6 @@ is_spelled b bytes h =
       dest = (number16_codec.split b 5 bytes (omega (arith, f.long))).1;
       frame = frame b bytes f;
       limit = f.limit;
+      are_octets = bytes;
       spelled = whole b bytes f;
     }

@@ -53,8 +53,7 @@ pub record IsFrame (frame : Gpdf) : Type 0 where
   -- each field fits its octets
   pub src_fits : IfSome frame.src (λ src. src.0 < 2 ^ 32)
   pub counter_fits : IfSome frame.counter (λ counter. counter < 2 ^ 32)
-  pub body_fits : IsOctets frame.body
-  pub mic_fits : IfSome frame.mic (λ mic. IsOctets mic × (length mic ≡ 4))
+  pub mic_fits : IfSome frame.mic (λ mic. length mic ≡ 4)
 
 -- the octets, at most 125 of them, spell the value
 pub record Frame (mpdu : Mpdu) (octets : List ℕ) : Type 0 where
@@ -63,4 +62,9 @@ pub record Frame (mpdu : Mpdu) (octets : List ℕ) : Type 0 where
   pub dest : mpdu.dest < 2 ^ 16
   pub frame : IsFrame mpdu.frame
   pub limit : length octets ≤ 125
+  pub are_octets : IsOctets octets
   pub spelled : octets ≡ spelling mpdu
+
+-- some octets spell the value
+abbrev pub IsValid : Mpdu → Type 0
+IsValid mpdu = (octets : List ℕ) × Frame mpdu octets

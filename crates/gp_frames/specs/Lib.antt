@@ -2,3 +2,4 @@ pub mod Frame
 pub mod Reasons
 pub mod Reading
 pub mod Shape
+pub mod Widths

@@ -6,7 +6,9 @@
 #![tactic(auto)]
 
 mod decoding;
+mod encoding;
 mod frame;
 
 pub use decoding::decode;
+pub use encoding::{encode, valid};
 pub use frame::{Ext, FrameReason, Gpdf, Mpdu};

@@ -1,0 +1,166 @@
+//! Spelling a frame.
+
+ghost use Rattle.std.specs.Prelude.{◌≡◌, ◌↔◌, ◌<◌, ◌≤◌, ◌^◌, length, IsTrue, IfSome, OnSome};
+ghost use Rattle.std.specs.Bool.{OnTrue};
+ghost use Rattle.std.specs.Option.{MatchOption};
+ghost use Rattle.std.specs.Int.{w32, to_le_bytes};
+ghost use Rattle.gp_base.specs.Field.{Adds, IsOctets, octet, optional};
+ghost use Rattle.gp_frames.specs.Frame.{control, extension, level_of, Frame, IsValid};
+ghost use Rattle.gp_frames.specs.Widths.{HasWidths, head_octets, field_octets, in_parts, has_fields};
+
+use crate::frame::{Ext, Gpdf, Mpdu};
+use gp_base::field::{add, add_mic_if, add_number16, add_number32_if, add_octet};
+use gp_base::{Octets, Src};
+
+/// Whether a value is one that some octets decode to (IEEE 802.15.4, 7.2; Zigbee PRO Green Power, A.1.4.1).
+pub fn valid(mpdu: &Mpdu) -> bool
+    ensures { IsTrue result ↔ IsValid mpdu.now }
+{
+    has_the_fields(&mpdu.frame) && has_room(mpdu)
+}
+
+/// The octets that decode to a value. There is one such list.
+pub fn encode(mpdu: &Mpdu) -> Octets
+    requires { IsValid mpdu.now }
+    ensures { Frame mpdu.now result }
+{
+    match spell(mpdu) {
+        Some(octets) => octets,
+        None => unreachable!(),
+    }
+}
+
+// Whether the level is one that a frame may have, and each field is there where it is to be.
+#[tactic(auto, unfolding(crate::specs::Widths::has_fields))]
+fn has_the_fields(frame: &Gpdf) -> bool
+    ensures value { result ≡ has_fields frame.now }
+    ensures level { OnTrue result (level_of frame.now ≤ 3) }
+{
+    let level = level_in(frame);
+    let is_secured = level > 1;
+    (level == 0 || level == 2 || level == 3)
+        && (level == 0 || !frame.maintenance)
+        && agree(
+            frame.src.is_some(),
+            !frame.maintenance || frame.ext.is_some(),
+        )
+        && agree(frame.counter.is_some(), is_secured)
+        && agree(frame.mic.is_some(), is_secured)
+        && !frame.body.as_slice().is_empty()
+}
+
+// Whether two answers are the same.
+fn agree(one: bool, other: bool) -> bool
+    ensures { result ≡ Rattle.gp_base.specs.Field.agree one other }
+{
+    one == other
+}
+
+fn level_in(frame: &Gpdf) -> u8
+    ensures { result ≡ level_of frame.now }
+{
+    match frame.ext {
+        Some(ext) => ext.level,
+        None => 0,
+    }
+}
+
+// Whether a value has at most 125 octets.
+fn has_room(mpdu: &Mpdu) -> bool
+    requires { level_of mpdu.now.frame ≤ 3 }
+    ensures room { IsTrue result ↔ (length (in_parts mpdu.now) ≤ 125) }
+    ensures octets { OnTrue result (IsOctets (in_parts mpdu.now)) }
+    ensures widths { OnTrue result (HasWidths mpdu.now) }
+{
+    match spell(mpdu) {
+        Some(octets) => is_short(octets.as_slice()),
+        None => false,
+    }
+}
+
+// Whether octets are at most 125, as many as an MPDU without FCS has.
+fn is_short(octets: &[u8]) -> bool
+    ensures room { IsTrue result ↔ (length octets.now ≤ 125) }
+    ensures octets { IsOctets octets.now }
+{
+    octets.len() <= 125
+}
+
+// The octets of a value, where they are at most 127.
+fn spell(mpdu: &Mpdu) -> Option<Octets>
+    requires { level_of mpdu.now.frame ≤ 3 }
+    ensures octets { MatchOption result (127 < length (in_parts mpdu.now)) (λ octets. octets ≡ in_parts mpdu.now) }
+    ensures widths { OnSome result (HasWidths mpdu.now) }
+{
+    let mut out = Octets::new();
+    add_head(&mut out, mpdu)?;
+    add_fields(&mut out, &mpdu.frame)?;
+    Some(out)
+}
+
+#[tactic(auto, unfolding(crate::specs::Widths::head_octets))]
+fn add_head(out: &mut Octets, mpdu: &Mpdu) -> Option<()>
+    ensures added { Adds (head_octets mpdu.now) out.old out.new result }
+    ensures seq { OnSome result (mpdu.now.seq < 2 ^ 8) }
+    ensures pan { OnSome result (mpdu.now.pan < 2 ^ 16) }
+    ensures dest { OnSome result (mpdu.now.dest < 2 ^ 16) }
+{
+    add(out, &[1, 8, mpdu.seq])?;
+    add_number16(out, mpdu.pan)?;
+    add_number16(out, mpdu.dest)?;
+    add_octet(out, control_of(&mpdu.frame))
+}
+
+fn control_of(frame: &Gpdf) -> u8
+    ensures { result ≡ control frame.now }
+{
+    u8::from(frame.maintenance)
+        + 12
+        + 64 * u8::from(frame.auto)
+        + 128 * u8::from(frame.ext.is_some())
+}
+
+#[tactic(auto, unfolding(crate::specs::Widths::field_octets))]
+fn add_fields(out: &mut Octets, frame: &Gpdf) -> Option<()>
+    requires { level_of frame.now ≤ 3 }
+    ensures added { Adds (field_octets frame.now) out.old out.new result }
+    ensures src { OnSome result (IfSome frame.now.src (λ src. src.0 < 2 ^ 32)) }
+    ensures counter { OnSome result (IfSome frame.now.counter (λ counter. counter < 2 ^ 32)) }
+    ensures mic { OnSome result (IfSome frame.now.mic (λ mic. length mic ≡ 4)) }
+{
+    add_ext(out, frame.ext)?;
+    add_src(out, frame.src)?;
+    add_number32_if(out, frame.counter)?;
+    add(out, frame.body.as_slice())?;
+    add_mic_if(out, frame.mic)
+}
+
+fn add_ext(out: &mut Octets, ext: Option<Ext>) -> Option<()>
+    requires { IfSome ext (λ e. e.level ≤ 3) }
+    ensures { Adds (optional (λ e. octet (extension e)) ext) out.old out.new result }
+{
+    match ext {
+        Some(ext) => add_octet(out, extension_of(ext)),
+        None => Some(()),
+    }
+}
+
+fn extension_of(ext: Ext) -> u8
+    requires { ext.level ≤ 3 }
+    ensures { result ≡ extension ext }
+{
+    8 * ext.level
+        + 32 * u8::from(ext.individual)
+        + 64 * u8::from(ext.rx_after)
+        + 128 * u8::from(ext.to_device)
+}
+
+fn add_src(out: &mut Octets, src: Option<Src>) -> Option<()>
+    ensures added { Adds (optional (λ s. to_le_bytes w32 s.0) src) out.old out.new result }
+    ensures width { IfSome src (λ s. s.0 < 2 ^ 32) }
+{
+    match src {
+        Some(src) => add(out, &src.0.to_le_bytes()),
+        None => Some(()),
+    }
+}
