@@ -25,3 +25,6 @@ pub use read_source::ReadSource;
 pub use reader::Reader;
 pub use word::Word;
 pub use write_out::WriteOut;
+
+#[cfg(test)]
+mod tests;

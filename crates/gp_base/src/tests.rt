@@ -1,0 +1,127 @@
+use super::*;
+use std::test::Fail;
+
+#[test]
+fn lists_of_octets(rt: HostRuntime) -> Result<(), Fail> {
+    let longest = [7u8; 127];
+    let mut octets = Octets::of(&longest).ok_or("127 octets are a list")?;
+    assert!(rt; Octets::of(&[7u8; 128]).is_none());
+    assert!(rt; !octets.push(8));
+    assert_eq!(rt; octets.as_slice(), longest.as_slice());
+    let mut short = Octets::new();
+    assert!(rt; short.push(1));
+    assert!(rt; short.push(2));
+    assert_eq!(rt; short.copy().as_slice(), [1, 2].as_slice());
+    assert!(rt; short == short.clone()?);
+    Ok(())
+}
+
+#[test]
+fn words_and_readers(rt: HostRuntime) -> Result<(), Fail> {
+    let word = Word::of(rt.alloc(), "decode").ok().ok_or("memory")?;
+    assert_eq!(rt; word.as_slice(), b"decode".as_slice());
+    let mut reader = Reader::new(&[1, 2, 3]);
+    assert_eq!(rt; reader.take(2), Some([1, 2].as_slice()));
+    assert!(rt; reader.take(2).is_none());
+    assert_eq!(rt; reader.place(), 2);
+    assert_eq!(rt; reader.take(1), Some([3].as_slice()));
+    Ok(())
+}
+
+// The examples of the derived group, and the bounds of SrcIDs.
+#[test]
+fn identifiers(rt: HostRuntime) {
+    let groups = [
+        (0x8765_4321, 0x4321),
+        (0x1234_0000, 0x1234),
+        (0x0000_FFFF, 0xFFF7),
+        (0xFFF8_0000, 0x0007),
+    ];
+    for (source, group) in groups {
+        assert_eq!(rt; derived_group(Src(source)), group, "of {source:08x}");
+    }
+    let sources = [
+        (0, false),
+        (1, true),
+        (0xFFFF_FFF8, true),
+        (0xFFFF_FFF9, false),
+        (0xFFFF_FFFF, false),
+    ];
+    for (source, pairable) in sources {
+        assert_eq!(rt; Src(source).pairable(), pairable, "{source:08x}");
+    }
+    let kinds = [
+        (KeyKind::Nwk, 1, false),
+        (KeyKind::Group, 2, false),
+        (KeyKind::DerivedGroup, 3, false),
+        (KeyKind::OutOfBox, 4, true),
+        (KeyKind::DerivedIndividual, 7, true),
+    ];
+    for (kind, number, individual) in kinds {
+        assert_eq!(rt; kind as u8, number);
+        assert_eq!(rt; kind.individual(), individual);
+    }
+    for (mode, number) in [
+        (Mode::Derived, 1),
+        (Mode::Commissioned, 2),
+        (Mode::Unicast, 3),
+    ] {
+        assert_eq!(rt; mode as u8, number);
+    }
+}
+
+// Three octets in pieces of two, with the second read to fail.
+#[test]
+fn a_source_in_memory(rt: HostRuntime) -> Result<(), Fail> {
+    let mut source = MemorySource::of(rt.alloc(), &[1, 2, 3], 2, &[1])
+        .ok()
+        .ok_or("memory")?;
+    let mut buffer = [0u8; 4];
+    assert_eq!(rt; source.read(&mut buffer), Ok(2));
+    assert_eq!(rt; buffer, [1, 2, 0, 0]);
+    assert_eq!(rt; source.read(&mut buffer), Err(Failed));
+    assert_eq!(rt; source.read(&mut buffer), Ok(1));
+    assert_eq!(rt; buffer, [3, 2, 0, 0]);
+    assert_eq!(rt; source.read(&mut buffer), Ok(0));
+    Ok(())
+}
+
+// Room for three octets in pieces of two, with the second write to fail.
+#[test]
+fn an_output_in_memory(rt: HostRuntime) -> Result<(), Fail> {
+    let mut out = MemoryOut::new(rt.alloc(), 3, 2, &[1]).ok().ok_or("memory")?;
+    assert_eq!(rt; out.write(&[1, 2, 3]), Ok(2));
+    assert_eq!(rt; out.write(&[3]), Err(Failed));
+    assert_eq!(rt; out.write(&[3, 4]), Ok(1));
+    assert_eq!(rt; out.write(&[4]), Err(Failed));
+    assert_eq!(rt; out.write(&[]), Ok(0));
+    assert_eq!(rt; out.written(), [1, 2, 3].as_slice());
+    Ok(())
+}
+
+// What a source over a reader carries: the octets of the reader, up to its end.
+#[test]
+fn a_source_over_a_reader(rt: HostRuntime) {
+    let text = b"capture".as_slice();
+    let mut source = ReadSource::new(text);
+    let mut buffer = [0u8; 5];
+    assert_eq!(rt; source.read(&mut buffer), Ok(5));
+    assert_eq!(rt; &buffer, b"captu");
+    assert_eq!(rt; source.read(&mut buffer), Ok(2));
+    assert_eq!(rt; &buffer, b"reptu");
+    assert_eq!(rt; source.read(&mut buffer), Ok(0));
+}
+
+// What an output over a writer carries: the octets go to the writer, and a writer that takes none fails.
+#[test]
+fn an_output_over_a_writer(rt: HostRuntime) -> Result<(), Fail> {
+    let mut octets = Vec::new(rt.alloc());
+    let mut out = WriteOut::new(&mut octets);
+    assert_eq!(rt; out.write(b"listing"), Ok(7));
+    assert_eq!(rt; octets.as_slice(), b"listing".as_slice());
+    let mut room = [0u8; 2];
+    let mut full = WriteOut::new(room.as_mut_slice());
+    assert_eq!(rt; full.write(b"abc"), Ok(2));
+    assert_eq!(rt; full.write(b"c"), Err(Failed));
+    Ok(())
+}
