@@ -1,7 +1,7 @@
 //! The ground that every other crate stands on: lists of octets, the identifiers of Green Power, and the
 //! two sides of the outside world.
 //! To the layer above, octet lists are lists of numbers, and a `Source` or an `Out` is what is left to
-//! read or was written, where it tells it, beside a count of faults that never falls.
+//! read or was written, where it tells it, beside a count of faults that never falls. `Steps` is a count of work.
 //! The contracts cite `Outside` for those two, `Fake` for the ones in memory and `Walk` for the reader.
 #![tactic(auto)]
 
@@ -13,6 +13,7 @@ mod octets;
 mod outside;
 mod read_source;
 mod reader;
+mod steps;
 mod word;
 mod write_out;
 
@@ -23,6 +24,7 @@ pub use octets::Octets;
 pub use outside::{Failed, NoMemory, Out, Source};
 pub use read_source::ReadSource;
 pub use reader::Reader;
+pub use steps::Steps;
 pub use word::Word;
 pub use write_out::WriteOut;
 

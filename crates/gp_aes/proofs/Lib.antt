@@ -1,0 +1,4 @@
+pub mod TableFacts
+pub mod ColumnLemmas
+pub mod Rounds
+pub mod Vectors
