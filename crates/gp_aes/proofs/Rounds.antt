@@ -1,5 +1,5 @@
 -- One round more, and one round key more.
-use Rattle.std.proofs.Common.{◌≡◌, ℕ, zero, suc, ◌-◌, ◌≤◌, List, refl, ap, arith}
+use Rattle.std.proofs.Common.{◌≡◌, ℕ, zero, suc, ◌-◌, ◌≤◌, List, length, refl, ap, arith}
 use Rattle.gp_aes.specs.KeyExpansion.{next_round_key, round_key}
 use Rattle.gp_aes.specs.Cipher.{add_round_key, mix_columns, shift_rows, sub_bytes, after_rounds, cipher}
 
@@ -30,3 +30,7 @@ pub cipher-last : (key block : List ℕ) →
     add_round_key (shift_rows (sub_bytes (after_rounds key block 9))) (round_key key 10) ≡ cipher key block
 unfolding cipher
 cipher-last key block = refl
+
+pub length-cipher : (key block : List ℕ) → length (cipher key block) ≡ 16
+unfolding cipher
+length-cipher key block = refl

@@ -1,43 +1,36 @@
 //! The chain over the blocks of authenticated octets and message (RFC 3610, 2.2).
 ghost use Rattle.std.specs.Prelude.{◌≡◌, ◌+◌, ◌≤◌, ◌==◌, ◌++◌, length, if◌then◌else◌};
 ghost use Rattle.gp_ccm.specs.Blocks.{block_count, blocks_of, two_octets};
-ghost use Rattle.gp_ccm.specs.Ccm.{chain, chained, first_block, header_blocks, octets_in};
+ghost use Rattle.gp_ccm.specs.Ccm.{chain, chained, first_block, flags, header_blocks, octets_in};
 
 use crate::TagSize;
-use crate::octets::with_added;
+use crate::octets::{around, with_added};
 use arrayvec::ArrayVec;
 use gp_aes::Schedule;
 use gp_base::Steps;
 use std::sync::ledger::Ledger;
+
+/// The flags of the first block.
+fn flags(aad: &[u8], size: TagSize) -> u8
+    ensures { result ≡ flags aad.now (octets_in size) }
+{
+    let field = match size {
+        TagSize::Four => 8,
+        TagSize::Eight => 24,
+    };
+    if aad.is_empty() {
+        field + 1
+    } else {
+        64 + field + 1
+    }
+}
 
 /// The first block: flags, nonce and the length of the message.
 fn first_block(nonce: &[u8; 13], aad: &[u8], message: &[u8], size: TagSize) -> [u8; 16]
     requires { length message.now ≤ 127 }
     ensures { result ≡ first_block nonce.now aad.now message.now (octets_in size) }
 {
-    let announced = if aad.is_empty() { 0 } else { 64 };
-    let field = match size {
-        TagSize::Four => 8,
-        TagSize::Eight => 24,
-    };
-    [
-        announced + field + 1,
-        nonce[0],
-        nonce[1],
-        nonce[2],
-        nonce[3],
-        nonce[4],
-        nonce[5],
-        nonce[6],
-        nonce[7],
-        nonce[8],
-        nonce[9],
-        nonce[10],
-        nonce[11],
-        nonce[12],
-        (message.len() / 256 % 256) as u8,
-        (message.len() % 256) as u8,
-    ]
+    around(flags(aad, size), nonce, message.len() as u16)
 }
 
 /// The chain from `x` over the blocks of a list.

@@ -1,8 +1,32 @@
 //! Sums of octets, and the comparison of tags.
-ghost use Rattle.std.specs.Prelude.{◌≡◌, ◌+◌, ◌<◌, ◌≤◌, ◌↔◌, ◌++◌, length, IsTrue};
-ghost use Rattle.gp_ccm.specs.Blocks.{padded, xor_octets};
+ghost use Rattle.std.specs.Prelude.{◌≡◌, ◌+◌, ◌<◌, ◌≤◌, ◌↔◌, ◌∷◌, ◌++◌, length, IsTrue};
+ghost use Rattle.gp_ccm.specs.Blocks.{padded, two_octets, xor_octets};
 
 use gp_base::Octets;
+
+/// A block of one octet, a nonce and a number, most significant octet first.
+pub fn around(first: u8, nonce: &[u8; 13], last: u16) -> [u8; 16]
+    ensures { result ≡ first ∷ nonce.now ++ two_octets last }
+{
+    [
+        first,
+        nonce[0],
+        nonce[1],
+        nonce[2],
+        nonce[3],
+        nonce[4],
+        nonce[5],
+        nonce[6],
+        nonce[7],
+        nonce[8],
+        nonce[9],
+        nonce[10],
+        nonce[11],
+        nonce[12],
+        (last / 256) as u8,
+        (last % 256) as u8,
+    ]
+}
 
 /// A block with at most 16 octets added to it, from its beginning on.
 pub fn with_added(block: [u8; 16], octets: &[u8]) -> [u8; 16]

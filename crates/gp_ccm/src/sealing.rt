@@ -4,9 +4,8 @@ ghost use Rattle.std.specs.Result.{OkIff};
 ghost use Rattle.gp_ccm.specs.Ccm.{ccm, cipher_calls, encrypted, octets_in, tag_of};
 
 use crate::TagSize;
-use crate::chain::chained;
 use crate::octets::are_same;
-use crate::stream::{encrypted, tag};
+use crate::stream::{encrypted, tag_of};
 use gp_aes::Schedule;
 use gp_base::{Key, Octets, Steps};
 use std::sync::ledger::Ledger;
@@ -40,9 +39,8 @@ pub fn seal<L: Ledger>(
     ensures cost { steps.new ≡ steps.old + cipher_calls aad.now message.now }
 {
     let schedule = Schedule::new(&key.0);
-    let x = chained(&schedule, nonce, aad, message, size, steps);
+    let tag = tag_of(&schedule, nonce, aad, message, size, steps);
     let cipher = encrypted(&schedule, nonce, message, steps);
-    let tag = tag(&schedule, nonce, x, size, steps);
     Sealed { cipher, tag }
 }
 
@@ -69,15 +67,16 @@ pub fn unseal<L: Ledger>(
     ensures refused { OnErr result ((message : List ℕ) → ccm key.now.0 nonce.now aad.now message (length tag.now) ≢ (cipher.now, tag.now)) }
     ensures cost { steps.new ≡ steps.old + cipher_calls aad.now cipher.now }
 {
-    let size = if tag.len() == 4 {
-        TagSize::Four
-    } else {
-        TagSize::Eight
-    };
     let schedule = Schedule::new(&key.0);
     let message = encrypted(&schedule, nonce, cipher, steps);
-    let x = chained(&schedule, nonce, aad, message.as_slice(), size, steps);
-    let expected = crate::stream::tag(&schedule, nonce, x, size, steps);
+    let expected = tag_of(
+        &schedule,
+        nonce,
+        aad,
+        message.as_slice(),
+        TagSize::of(tag),
+        steps,
+    );
     if are_same(expected.as_slice(), tag) {
         Ok(message)
     } else {
