@@ -9,3 +9,8 @@ mod schedule;
 mod tables;
 
 pub use schedule::Schedule;
+
+#[cfg(test)]
+mod plain;
+#[cfg(test)]
+mod tests;

@@ -12,3 +12,6 @@ mod stream;
 
 pub use sealing::{BadTag, Sealed, seal, unseal};
 pub use size::TagSize;
+
+#[cfg(test)]
+mod tests;
