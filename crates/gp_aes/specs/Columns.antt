@@ -1,8 +1,8 @@
--- A state as four numbers, one a column, whose lowest octet is row 0.
+-- A state as four numbers, one a column, whose lowest octet is that of the first row.
 use Rattle.std.specs.Prelude.{ℕ, List, ◌++◌, slice_index}
 use Rattle.std.specs.Int.{w32, to_le_bytes}
 
--- the octets of a column, from row 0
+-- the octets of a column, from the first row on
 abbrev pub rows_of : ℕ → List ℕ
 rows_of w = to_le_bytes w32 w
 

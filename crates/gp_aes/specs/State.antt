@@ -5,7 +5,7 @@ use Rattle.std.specs.Prelude.{ℕ, ◌+◌, ◌*◌, List, [], ◌∷◌, slice_
 abbrev pub at : List ℕ → ℕ → ℕ → ℕ
 at s r c = slice_index s (r + 4 * c)
 
--- column c, from row 0
+-- column c, from its first row on
 abbrev pub column : List ℕ → ℕ → List ℕ
 column s c = at s 0 c ∷ at s 1 c ∷ at s 2 c ∷ at s 3 c ∷ []
 

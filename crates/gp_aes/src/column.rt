@@ -1,4 +1,4 @@
-//! One column of the state, or one word of the expanded key, as a number with row 0 in its lowest octet.
+//! One column of the state, or one word of the expanded key, as a number with its first row in the lowest octet.
 ghost use Rattle.std.specs.Prelude.{◌≡◌, ℕ, ◌<◌, ◌≤◌, ◌+◌, ◌-◌, ◌*◌, ◌/◌, ◌%◌, [], ◌∷◌, length, slice_index};
 ghost use Rattle.gp_aes.specs.Field.{product, sub_byte};
 ghost use Rattle.gp_aes.specs.Cipher.{mix_column};
@@ -48,7 +48,7 @@ fn mixed_3(octet: u32) -> u32
     MIXED_3[octet as usize]
 }
 
-/// A column after a whole round: `a`, `b`, `c` and `d` are the columns from which ShiftRows takes rows 0 to 3.
+/// A column after a whole round: `a`, `b`, `c` and `d` are the columns from which ShiftRows takes the four rows.
 #[inline(always)]
 pub fn mixed_column(a: u32, b: u32, c: u32, d: u32, key: u32) -> u32
     ensures { rows_of result ≡ add_words (mix_column (

@@ -1,3 +1,4 @@
 pub mod XorLemmas
 pub mod BlockLemmas
 pub mod CcmLemmas
+pub mod PacketVectors

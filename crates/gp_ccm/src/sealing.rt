@@ -36,6 +36,8 @@ pub fn seal<L: Ledger>(
     requires aad { length aad.now ≤ 127 }
     requires message { length message.now ≤ 127 }
     ensures value { (result.cipher, result.tag) ≡ ccm key.now.0 nonce.now aad.now message.now (octets_in size) }
+    ensures cipher_size { length result.cipher ≡ length message.now }
+    ensures tag_size { length result.tag ≡ octets_in size }
     ensures cost { steps.new ≡ steps.old + cipher_calls aad.now message.now }
 {
     let schedule = Schedule::new(&key.0);
@@ -65,6 +67,7 @@ pub fn unseal<L: Ledger>(
     // In terms of all messages: the answer is one that seals to these octets, and `BadTag` says that there is none.
     ensures opened { IfOk result (λ message. ccm key.now.0 nonce.now aad.now message (length tag.now) ≡ (cipher.now, tag.now)) }
     ensures refused { OnErr result ((message : List ℕ) → ccm key.now.0 nonce.now aad.now message (length tag.now) ≢ (cipher.now, tag.now)) }
+    ensures size { IfOk result (λ message. length message ≡ length cipher.now) }
     ensures cost { steps.new ≡ steps.old + cipher_calls aad.now cipher.now }
 {
     let schedule = Schedule::new(&key.0);

@@ -26,6 +26,7 @@ pub fn encrypted<L: Ledger>(
 ) -> Octets
     requires { length message.now ≤ 127 }
     ensures value { result ≡ encrypted schedule.now nonce.now message.now }
+    ensures size { length result ≡ length message.now }
     ensures cost { steps.new ≡ steps.old + block_count (length message.now) }
 {
     let mut out = Octets::new();

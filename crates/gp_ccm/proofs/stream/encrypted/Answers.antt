@@ -1,4 +1,4 @@
-use Rattle.std.proofs.Common.{◌≡◌, ◌+◌, ◌∙◌, ◌++◌, length, take, drop, sym, ap, refl, arith, append_assoc, length-append, length-take, length-drop}
+use Rattle.std.proofs.Common.{◌≡◌, ◌+◌, ◌∙◌, ◌++◌, length, take, drop, sym, ap, arith, append_assoc, length-append, length-take, length-drop}
 use Rattle.gp_aes.specs.Cipher.{cipher}
 use Rattle.gp_aes.proofs.Rounds.{length-cipher}
 use Rattle.gp_ccm.specs.Blocks.{block_count, xor_octets}
@@ -14,7 +14,7 @@ loop-rest-init g c =
     let message = c.args.message.now in
     record {
       value = ap (λ o. o ++ xor_octets message (key_stream c.args.schedule.now c.args.nonce.now 1 (block_count (length message)))) c.new-out.ensures;
-      cost = refl;
+      cost = omega arith;
       size = omega (arith, ap length c.new-out.ensures);
       count = omega (arith, c.requires);
     }
