@@ -1,0 +1,51 @@
+-- Application information of a Commissioning (Zigbee PRO Green Power, A.4.2, Commissioning command).
+use Rattle.std.specs.Prelude.{ℕ, ◌+◌, ◌*◌, ◌/◌, ◌%◌, List, Option, if◌then◌else◌}
+use Rattle.gp_commands.specs.declared.application.Application.{Application}
+use Rattle.gp_commands.specs.Fields.{bit, octet_at, octets_at, number16_at, size_if, value_if}
+
+-- how many octets clusters take after their first one, which counts those of servers in its bits 0 to 3 and
+-- those of clients in its bits 4 to 7
+abbrev pub clusters_size : ℕ → ℕ
+clusters_size counts = 2 * (counts % 16 + counts / 16)
+
+-- The places of its fields, where its first octet would stand at a place, and is there by bit 2 of the options.
+-- What a field's flags and counts say is read at its place; a missing octet counts as 0.
+
+-- the octet with the flags, 0 where it is absent
+abbrev pub flags_at : ℕ → List ℕ → ℕ → ℕ
+flags_at options b place = if bit 2 options then octet_at b place else 0
+
+abbrev pub manufacturer_place : ℕ → ℕ → ℕ
+manufacturer_place options place = place + size_if (bit 2 options) 1
+
+abbrev pub model_place : ℕ → List ℕ → ℕ → ℕ
+model_place options b place = manufacturer_place options place + size_if (bit 0 (flags_at options b place)) 2
+
+abbrev pub commands_place : ℕ → List ℕ → ℕ → ℕ
+commands_place options b place = model_place options b place + size_if (bit 1 (flags_at options b place)) 2
+
+-- behind the list of commands, which stands behind its count
+abbrev pub clusters_place : ℕ → List ℕ → ℕ → ℕ
+clusters_place options b place =
+    let here = commands_place options b place in
+    here + size_if (bit 2 (flags_at options b place)) (1 + octet_at b here)
+
+-- behind it all
+unfoldable pub application_end : ℕ → List ℕ → ℕ → ℕ
+application_end options b place =
+    let here = clusters_place options b place in
+    here + size_if (bit 3 (flags_at options b place)) (1 + clusters_size (octet_at b here))
+
+-- what stands there
+unfoldable pub application_at : ℕ → List ℕ → ℕ → Application
+application_at options b place =
+    let flags = flags_at options b place in
+    let commands = commands_place options b place in
+    let clusters = clusters_place options b place in
+    record {
+      information = value_if (bit 2 options) (octet_at b place);
+      manufacturer = value_if (bit 0 flags) (number16_at b (manufacturer_place options place));
+      model = value_if (bit 1 flags) (number16_at b (model_place options b place));
+      commands = value_if (bit 2 flags) (octets_at (octet_at b commands) b (commands + 1));
+      clusters = value_if (bit 3 flags) (octets_at (1 + clusters_size (octet_at b clusters)) b clusters);
+    }

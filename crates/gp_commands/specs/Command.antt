@@ -1,0 +1,99 @@
+-- A device command and its octets: an identifier, the fields that are there in order, and the rest
+-- (Zigbee PRO Green Power, A.4.1 and A.4.2).
+use Rattle.std.specs.Prelude.{◌≡◌, ℕ, ◌<◌, ◌≤◌, ◌^◌, ◌==◌, nat_lt, List, [], ◌∷◌, ◌++◌, length, drop, Option, Some, None, Result, Ok, Err, IfSome, IsTrue, if◌then◌else◌}
+use Rattle.std.specs.Int.{w16, to_le_bytes}
+use Rattle.gp_commands.specs.declared.form.Form.{Form}
+use Rattle.gp_commands.specs.declared.form.Form.TheVariants as forms
+use Rattle.gp_commands.specs.declared.command.GpdCommand.{GpdCommand}
+use Rattle.gp_commands.specs.declared.command.GpdCommand.TheVariants.{Plain, Move, Step, Vector, Report, Commissioning, Reply, ChannelRequest, ChannelConfig, Other}
+use Rattle.gp_commands.specs.declared.command.CommandReason.{CommandReason}
+use Rattle.gp_commands.specs.declared.command.CommandReason.TheVariants.{Empty, Short}
+use Rattle.gp_commands.specs.declared.form.TheConstants.{REPORT, COMMISSIONING, REPLY, CHANNEL_REQUEST, CHANNEL_CONFIG}
+use Rattle.gp_commands.specs.Fields.{octet, spelled, octet_at, answer}
+use Rattle.gp_commands.specs.Forms.{form_of}
+use Rattle.gp_commands.specs.Level.{HasMoveRest, HasStepRest, move_at, step_at}
+use Rattle.gp_commands.specs.Report.{AreRecords, report_reason, report_at}
+use Rattle.gp_commands.specs.Commissioning.{commissioning, fields_agree, HasCommissioningWidths, commissioning_reason, commissioning_at}
+use Rattle.gp_commands.specs.Reply.{reply, reply_fields_agree, HasReplyWidths, reply_reason, reply_at}
+
+-- ---- what a command is
+
+-- its octets
+abbrev pub spelling : GpdCommand → List ℕ
+spelling (Plain id rest) = id ∷ rest
+spelling (Move id rate rest) = id ∷ (spelled octet rate ++ rest)
+spelling (Step id size time rest) = id ∷ size ∷ (spelled (to_le_bytes w16) time ++ rest)
+spelling (Vector id value rest) = id ∷ value ∷ rest
+spelling (Report cluster records) = REPORT ∷ (to_le_bytes w16 cluster ++ records)
+spelling (Commissioning c) = COMMISSIONING ∷ commissioning c
+spelling (Reply r) = REPLY ∷ reply r
+spelling (ChannelRequest value rest) = CHANNEL_REQUEST ∷ value ∷ rest
+spelling (ChannelConfig value rest) = CHANNEL_CONFIG ∷ value ∷ rest
+spelling (Other id rest) = id ∷ rest
+
+-- The identifier is one of the variant's, and each field is there where it is to be.
+abbrev pub HasForm : GpdCommand → Type 0
+HasForm (Plain id rest) = form_of id ≡ forms.Plain
+HasForm (Move id rate rest) = (form_of id ≡ forms.Move) × HasMoveRest rate rest
+HasForm (Step id size time rest) = (form_of id ≡ forms.Step) × HasStepRest time rest
+HasForm (Vector id value rest) = form_of id ≡ forms.Vector
+HasForm (Report cluster records) = AreRecords records
+HasForm (Commissioning c) = IsTrue (fields_agree c)
+HasForm (Reply r) = IsTrue (reply_fields_agree r)
+HasForm (ChannelRequest value rest) = Unit {0}
+HasForm (ChannelConfig value rest) = Unit {0}
+HasForm (Other id rest) = form_of id ≡ forms.Other
+
+-- Numbers, keys and MICs have the widths of their fields, as those of each value in the program have.
+abbrev pub HasWidths : GpdCommand → Type 0
+HasWidths (Step id size time rest) = IfSome time (λ n. n < 2 ^ 16)
+HasWidths (Report cluster records) = cluster < 2 ^ 16
+HasWidths (Commissioning c) = HasCommissioningWidths c
+HasWidths (Reply r) = HasReplyWidths r
+HasWidths _ = Unit {0}
+
+-- The octets, at most 117 of them, spell the command.
+pub record Command (c : GpdCommand) (b : List ℕ) : Type 0 where
+  pub parts : b ≡ spelling c
+  pub form : HasForm c
+  pub widths : HasWidths c
+  pub room : length b ≤ 117
+
+-- Some octets spell the command.
+pub record IsSound (c : GpdCommand) : Type 0 where
+  pub octets : List ℕ
+  pub spell : Command c octets
+
+-- ---- the first fault, and what is read without one
+
+abbrev pub payload_reason : Form → List ℕ → Option CommandReason
+payload_reason forms.Plain b = None
+payload_reason forms.Move b = None
+payload_reason forms.Step b = if nat_lt (length b) 2 then Some (Short (length b)) else None
+payload_reason forms.Vector b = if nat_lt (length b) 2 then Some (Short (length b)) else None
+payload_reason forms.Report b = report_reason b
+payload_reason forms.Commissioning b = commissioning_reason b
+payload_reason forms.Reply b = reply_reason b
+payload_reason forms.ChannelRequest b = if nat_lt (length b) 2 then Some (Short (length b)) else None
+payload_reason forms.ChannelConfig b = if nat_lt (length b) 2 then Some (Short (length b)) else None
+payload_reason forms.Other b = None
+
+abbrev pub payload_at : Form → List ℕ → GpdCommand
+payload_at forms.Plain b = Plain (octet_at b 0) (drop 1 b)
+payload_at forms.Move b = move_at b
+payload_at forms.Step b = step_at b
+payload_at forms.Vector b = Vector (octet_at b 0) (octet_at b 1) (drop 2 b)
+payload_at forms.Report b = report_at b
+payload_at forms.Commissioning b = Commissioning (commissioning_at b)
+payload_at forms.Reply b = Reply (reply_at b)
+payload_at forms.ChannelRequest b = ChannelRequest (octet_at b 1) (drop 2 b)
+payload_at forms.ChannelConfig b = ChannelConfig (octet_at b 1) (drop 2 b)
+payload_at forms.Other b = Other (octet_at b 0) (drop 1 b)
+
+-- the first fault from the left
+abbrev pub first_reason : List ℕ → Option CommandReason
+first_reason b = if length b == 0 then Some Empty else payload_reason (form_of (octet_at b 0)) b
+
+-- what octets read as
+unfoldable pub reading : List ℕ → Result GpdCommand CommandReason
+reading b = answer (first_reason b) (payload_at (form_of (octet_at b 0)) b)

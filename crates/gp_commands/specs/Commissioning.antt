@@ -1,0 +1,124 @@
+-- The Commissioning command (Zigbee PRO Green Power, A.4.2.1.1).
+use Rattle.std.specs.Prelude.{◌≡◌, ℕ, ◌+◌, ◌*◌, ◌/◌, ◌%◌, ◌<◌, ◌≤◌, ◌^◌, ◌==◌, nat_lt, Bool, true, if◌then◌else◌, ◌&&◌, ◌||◌, List, [], ◌∷◌, length, drop, Option, Some, None, is_some, unwrap_or, IfSome, IsTrue}
+use Rattle.std.specs.Option.{option_map_or}
+use Rattle.std.specs.Int.{w16, w32, to_le_bytes}
+use Rattle.gp_base.specs.Table.{first_of}
+use Rattle.gp_commands.specs.declared.command.Commissioning.{Commissioning}
+use Rattle.gp_commands.specs.declared.commissioning.Header.{Header}
+use Rattle.gp_commands.specs.declared.command.CommandReason.{CommandReason}
+use Rattle.gp_commands.specs.declared.command.CommandReason.TheVariants.{Short, ReservedLevel, ReservedKeyKind}
+use Rattle.gp_commands.specs.Fields.{bit, agree, octet, key_octets, counted, spelled, joined, octet_at, octets_at, number16_at, size_if, value_if}
+use Rattle.gp_commands.specs.Application.{clusters_size, application_end, application_at}
+use Rattle.gp_commands.specs.declared.keying.Wanted.{Wanted}
+use Rattle.gp_commands.specs.Keying.{keying_size, keying_at}
+
+-- ---- flags
+
+-- the level, bits 0 and 1 of the extended options
+abbrev pub level : ℕ → ℕ
+level extended = extended % 4
+
+-- the kind of key, bits 2 to 4
+abbrev pub key_kind : ℕ → ℕ
+key_kind extended = extended / 4 % 8
+
+-- the key by bit 5, its MIC by bits 5 and 6, the counter by bit 7
+abbrev pub wanted_by : ℕ → Wanted
+wanted_by extended = record { key = bit 5 extended; mic = bit 5 extended && bit 6 extended; counter = bit 7 extended }
+
+-- ---- what a Commissioning is
+
+-- its octets after the identifier
+abbrev pub commissioning : Commissioning → List ℕ
+commissioning c =
+    joined
+      ( octet c.device
+      ∷ octet c.options
+      ∷ spelled octet c.extended
+      ∷ spelled key_octets c.key
+      ∷ spelled (λ mic. mic) c.key_mic
+      ∷ spelled (to_le_bytes w32) c.counter
+      ∷ spelled octet c.application
+      ∷ spelled (to_le_bytes w16) c.manufacturer
+      ∷ spelled (to_le_bytes w16) c.model
+      ∷ spelled counted c.commands
+      ∷ spelled (λ clusters. clusters) c.clusters
+      ∷ c.rest
+      ∷ [] )
+
+-- each field is there exactly where its flag says so, and the clusters are as many as their first octet says
+abbrev pub fields_agree : Commissioning → Bool
+fields_agree c =
+    let extended = unwrap_or c.extended 0 in
+    let wanted = wanted_by extended in
+    let application = unwrap_or c.application 0 in
+    agree (is_some c.extended) (bit 7 c.options)
+    && agree (is_some c.key) wanted.key
+    && agree (is_some c.key_mic) wanted.mic
+    && agree (is_some c.counter) wanted.counter
+    && agree (is_some c.application) (bit 2 c.options)
+    && agree (is_some c.manufacturer) (bit 0 application)
+    && agree (is_some c.model) (bit 1 application)
+    && agree (is_some c.commands) (bit 2 application)
+    && agree (is_some c.clusters) (bit 3 application)
+    && option_map_or (λ clusters. length clusters == 1 + clusters_size (octet_at clusters 0)) c.clusters true
+
+-- Keys have 16 octets and MICs 4, and numbers fit two or four octets.
+pub record HasCommissioningWidths (c : Commissioning) : Type 0 where
+  pub key : IfSome c.key (λ key. length (key_octets key) ≡ 16)
+  pub mic : IfSome c.key_mic (λ mic. length mic ≡ 4)
+  pub counter : IfSome c.counter (λ n. n < 2 ^ 32)
+  pub manufacturer : IfSome c.manufacturer (λ n. n < 2 ^ 16)
+  pub model : IfSome c.model (λ n. n < 2 ^ 16)
+
+-- ---- places
+
+-- the octet with the level and the kind of key, 0 where it is absent
+abbrev pub extended_at : List ℕ → ℕ
+extended_at b = if bit 7 (octet_at b 2) then octet_at b 3 else 0
+
+-- where the key would stand
+abbrev pub keying_place : List ℕ → ℕ
+keying_place b = 3 + size_if (bit 7 (octet_at b 2)) 1
+
+-- what stands before the key
+unfoldable pub header_at : List ℕ → Header
+header_at b = record { device = octet_at b 1; options = octet_at b 2; extended = value_if (bit 7 (octet_at b 2)) (octet_at b 3) }
+
+-- where the application information would stand
+abbrev pub application_place : List ℕ → ℕ
+application_place b = keying_place b + keying_size (wanted_by (extended_at b))
+
+-- where the rest begins
+abbrev pub rest_place : List ℕ → ℕ
+rest_place b = application_end (octet_at b 2) b (application_place b)
+
+-- the first fault of a Commissioning
+abbrev pub commissioning_reason : List ℕ → Option CommandReason
+commissioning_reason b =
+    first_of
+      ( (nat_lt (length b) (keying_place b), Short (length b))
+      ∷ (level (extended_at b) == 1, ReservedLevel)
+      ∷ ((key_kind (extended_at b) == 5) || (key_kind (extended_at b) == 6), ReservedKeyKind)
+      ∷ (nat_lt (length b) (rest_place b), Short (length b))
+      ∷ [] )
+
+-- what stands at the places
+abbrev pub commissioning_at : List ℕ → Commissioning
+commissioning_at b =
+    let keying = keying_at (wanted_by (extended_at b)) b (keying_place b) in
+    let application = application_at (octet_at b 2) b (application_place b) in
+    record {
+      device = octet_at b 1;
+      options = octet_at b 2;
+      extended = value_if (bit 7 (octet_at b 2)) (octet_at b 3);
+      key = keying.key;
+      key_mic = keying.mic;
+      counter = keying.counter;
+      application = application.information;
+      manufacturer = application.manufacturer;
+      model = application.model;
+      commands = application.commands;
+      clusters = application.clusters;
+      rest = drop (rest_place b) b;
+    }

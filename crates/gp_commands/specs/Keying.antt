@@ -1,0 +1,30 @@
+-- A key, its MIC and a counter, each there or not, as Commissioning and its reply carry them
+-- (Zigbee PRO Green Power, A.4.2, Commissioning and Commissioning Reply commands).
+use Rattle.std.specs.Prelude.{ℕ, ◌+◌, ◌==◌, ◌||◌, Bool, List, ◌++◌, ◌∷◌, [], Option}
+use Rattle.std.specs.Int.{w32, to_le_bytes}
+use Rattle.gp_base.specs.Table.{first_of}
+use Rattle.gp_commands.specs.declared.keying.Keying.{Keying}
+use Rattle.gp_commands.specs.declared.keying.Wanted.{Wanted}
+use Rattle.gp_commands.specs.declared.command.CommandReason.{CommandReason}
+use Rattle.gp_commands.specs.declared.command.CommandReason.TheVariants.{ReservedLevel, ReservedKeyKind}
+use Rattle.gp_commands.specs.Fields.{key_at, octets_at, number32_at, size_if, value_if, spelled, key_octets}
+
+-- level 1, and the kinds of key 5 and 6, are reserved
+abbrev pub reserved : ℕ → ℕ → Option CommandReason
+reserved level kind = first_of ((level == 1, ReservedLevel) ∷ ((kind == 5) || (kind == 6), ReservedKeyKind) ∷ [])
+
+-- the octets of the three
+unfoldable pub keying_octets : Keying → List ℕ
+keying_octets keying = spelled key_octets keying.key ++ (spelled (λ mic. mic) keying.mic ++ spelled (to_le_bytes w32) keying.counter)
+
+-- how many octets they take
+unfoldable pub keying_size : Wanted → ℕ
+keying_size wanted = size_if wanted.key 16 + size_if wanted.mic 4 + size_if wanted.counter 4
+
+-- what stands from a place on
+unfoldable pub keying_at : Wanted → List ℕ → ℕ → Keying
+keying_at wanted b place = record {
+  key = value_if wanted.key (key_at b place);
+  mic = value_if wanted.mic (octets_at 4 b (place + size_if wanted.key 16));
+  counter = value_if wanted.counter (number32_at b (place + size_if wanted.key 16 + size_if wanted.mic 4));
+}

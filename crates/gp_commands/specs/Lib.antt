@@ -1,0 +1,10 @@
+pub mod Fields
+pub mod Forms
+pub mod Values
+pub mod Level
+pub mod Report
+pub mod Keying
+pub mod Application
+pub mod Commissioning
+pub mod Reply
+pub mod Command

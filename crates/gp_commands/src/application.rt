@@ -1,0 +1,85 @@
+//! The application information of a Commissioning.
+
+ghost use Rattle.std.specs.Prelude.{◌≡◌, ◌+◌, ◌≤◌, length};
+ghost use Rattle.gp_commands.specs.Fields.{Takes, TakesTo, IsWithin, octet_at, octets_at, size_if, value_if};
+ghost use Rattle.gp_commands.specs.Application.{application_end, application_at};
+
+use crate::field::{add, add_octet, is_set, number16_if, octet, octet_if, octets};
+use gp_base::{Octets, Reader};
+
+/// What a device says of the application that it has.
+#[derive(Debug, Drop)]
+pub(crate) struct Application {
+    /// The octet of its flags.
+    pub information: Option<u8>,
+    pub manufacturer: Option<u16>,
+    pub model: Option<u16>,
+    /// The commands, without their count.
+    pub commands: Option<Octets>,
+    /// The clusters, with their first octet, which has the counts.
+    pub clusters: Option<Octets>,
+}
+
+/// How many octets clusters have after their first one: two for each server cluster, which its bits 0 to 3
+/// count, and two for each client cluster, which its bits 4 to 7 count.
+pub(crate) fn clusters_size(counts: u8) -> usize
+    ensures { result ≡ Rattle.gp_commands.specs.Application.clusters_size counts }
+{
+    2 * ((counts % 16) as usize + (counts / 16) as usize)
+}
+
+/// Takes a list that stands behind its length.
+fn counted_if(reader: &mut Reader, there: bool) -> Option<Option<Octets>>
+    requires within { IsWithin reader.old }
+    requires room { length reader.old.octets ≤ 127 }
+    ensures { Takes (size_if there (1 + octet_at reader.old.octets reader.old.place))
+        (value_if there (octets_at (octet_at reader.old.octets reader.old.place) reader.old.octets (reader.old.place + 1)))
+        reader.old reader.new result }
+{
+    if !there {
+        return Some(None);
+    }
+    let count = octet(reader)?;
+    Some(Some(octets(reader, count as usize)?))
+}
+
+/// Takes clusters, whose first octet says how many octets follow.
+fn clusters_if(reader: &mut Reader, there: bool) -> Option<Option<Octets>>
+    requires { IsWithin reader.old }
+    ensures { Takes (size_if there (1 + Rattle.gp_commands.specs.Application.clusters_size (octet_at reader.old.octets reader.old.place)))
+        (value_if there (octets_at (1 + Rattle.gp_commands.specs.Application.clusters_size (octet_at reader.old.octets reader.old.place)) reader.old.octets reader.old.place))
+        reader.old reader.new result }
+{
+    if !there {
+        return Some(None);
+    }
+    let counts = octet(reader)?;
+    let list = reader.take(clusters_size(counts))?;
+    let mut clusters = Octets::new();
+    add_octet(&mut clusters, counts)?;
+    add(&mut clusters, list)?;
+    Some(Some(clusters))
+}
+
+/// Takes the application information, which is there by bit 2 of a Commissioning's options.
+#[tactic(auto, unfolding(crate::specs::Application::application_end, crate::specs::Application::application_at))]
+pub(crate) fn take_application(reader: &mut Reader, options: u8) -> Option<Application>
+    requires within { IsWithin reader.old }
+    requires room { length reader.old.octets ≤ 127 }
+    ensures { TakesTo (application_end options reader.old.octets reader.old.place)
+        (application_at options reader.old.octets reader.old.place) reader.old reader.new result }
+{
+    let information = octet_if(reader, is_set(options, 4))?;
+    let flags = information.unwrap_or(0);
+    let manufacturer = number16_if(reader, is_set(flags, 1))?;
+    let model = number16_if(reader, is_set(flags, 2))?;
+    let commands = counted_if(reader, is_set(flags, 4))?;
+    let clusters = clusters_if(reader, is_set(flags, 8))?;
+    Some(Application {
+        information,
+        manufacturer,
+        model,
+        commands,
+        clusters,
+    })
+}

@@ -1,0 +1,61 @@
+//! A key, its MIC and a counter, as Commissioning and its reply carry them.
+
+ghost use Rattle.std.specs.Prelude.{◌≡◌};
+
+ghost use Rattle.gp_commands.specs.Fields.{Takes, IsWithin, Adds};
+ghost use Rattle.gp_commands.specs.Keying.{keying_size, keying_at, keying_octets, reserved};
+
+use crate::command::CommandReason;
+use crate::field::{add_key_if, add_mic_if, add_number32_if, key_if, mic_if, number32_if};
+use gp_base::{Key, Octets, Reader};
+
+/// Which of the three are there.
+#[derive(Clone, Copy, Debug)]
+pub(crate) struct Wanted {
+    pub key: bool,
+    pub mic: bool,
+    pub counter: bool,
+}
+
+/// The three, as far as they are there.
+#[derive(Clone, Copy, Debug)]
+pub(crate) struct Keying {
+    pub key: Option<Key>,
+    pub mic: Option<[u8; 4]>,
+    pub counter: Option<u32>,
+}
+
+/// Why a level or a kind of key is refused: level 1, and the kinds 5 and 6, are reserved.
+pub(crate) fn reserved_reason(level: u8, kind: u8) -> Option<CommandReason>
+    ensures { result ≡ reserved level kind }
+{
+    if level == 1 {
+        return Some(CommandReason::ReservedLevel);
+    }
+    if kind == 5 || kind == 6 {
+        return Some(CommandReason::ReservedKeyKind);
+    }
+    None
+}
+
+/// Takes the three from a reader.
+#[tactic(auto, unfolding(crate::specs::Keying::keying_size, crate::specs::Keying::keying_at))]
+pub(crate) fn take_keying(reader: &mut Reader, wanted: Wanted) -> Option<Keying>
+    requires { IsWithin reader.old }
+    ensures { Takes (keying_size wanted) (keying_at wanted reader.old.octets reader.old.place) reader.old reader.new result }
+{
+    let key = key_if(reader, wanted.key)?;
+    let mic = mic_if(reader, wanted.mic)?;
+    let counter = number32_if(reader, wanted.counter)?;
+    Some(Keying { key, mic, counter })
+}
+
+/// Adds the three at the end.
+#[tactic(auto, unfolding(crate::specs::Keying::keying_octets))]
+pub(crate) fn add_keying(out: &mut Octets, keying: Keying) -> Option<()>
+    ensures added { Adds (keying_octets keying) out.old out.new result }
+{
+    add_key_if(out, keying.key)?;
+    add_mic_if(out, keying.mic)?;
+    add_number32_if(out, keying.counter)
+}

@@ -1,0 +1,57 @@
+//! Move and Step of level control.
+
+ghost use Rattle.std.specs.Prelude.{◌≡◌, ◌<◌, ◌≤◌, length, Some, None, IsTrue, ◌↔◌, nat_lt, if◌then◌else◌};
+ghost use Rattle.gp_commands.specs.Fields.{octet_at};
+ghost use Rattle.gp_commands.specs.Level.{move_at, step_at, HasMoveRest, HasStepRest};
+
+use crate::command::GpdCommand;
+use crate::field::{number16, octet, rest};
+use gp_base::{Octets, Reader};
+
+/// Reads a Move after its identifier: the rate is there where an octet is left.
+pub(crate) fn read_move(id: u8, reader: &mut Reader) -> GpdCommand
+    requires identifier { id ≡ octet_at reader.old.octets 0 }
+    requires place { reader.old.place ≡ 1 }
+    requires within { 1 ≤ length reader.old.octets }
+    requires room { length reader.old.octets ≤ 117 }
+    ensures { result ≡ move_at reader.old.octets }
+{
+    let rate = octet(reader);
+    GpdCommand::Move {
+        id,
+        rate,
+        rest: rest(reader),
+    }
+}
+
+/// Reads a Step after its identifier, `None` where its size is missing. The time is there where two octets are
+/// left after the size; where one is left, that octet is the rest.
+pub(crate) fn read_step(id: u8, reader: &mut Reader) -> Option<GpdCommand>
+    requires identifier { id ≡ octet_at reader.old.octets 0 }
+    requires place { reader.old.place ≡ 1 }
+    requires room { length reader.old.octets ≤ 117 }
+    ensures { result ≡ (if nat_lt (length reader.old.octets) 2 then None else Some (step_at reader.old.octets)) }
+{
+    let size = octet(reader)?;
+    let time = number16(reader);
+    Some(GpdCommand::Step {
+        id,
+        size,
+        time,
+        rest: rest(reader),
+    })
+}
+
+/// Whether a Move may have these: without a rate there is no rest.
+pub(crate) fn has_move_rest(rate: Option<u8>, rest: &Octets) -> bool
+    ensures { IsTrue result ↔ HasMoveRest rate rest.now }
+{
+    rate.is_some() || rest.as_slice().is_empty()
+}
+
+/// Whether a Step may have these: without a time there is at most one octet of rest.
+pub(crate) fn has_step_rest(time: Option<u16>, rest: &Octets) -> bool
+    ensures { IsTrue result ↔ HasStepRest time rest.now }
+{
+    time.is_some() || rest.as_slice().len() <= 1
+}

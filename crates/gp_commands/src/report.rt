@@ -1,0 +1,73 @@
+//! Attribute reports.
+
+ghost use Rattle.std.specs.Prelude.{◌≡◌, ◌+◌, ◌<◌, ◌≤◌, length, IfOk, MatchResult};
+ghost use Rattle.gp_commands.specs.Report.{entries_reason, report_reason, report_at, EntryEnds};
+ghost use Rattle.gp_commands.specs.Fields.{answer, octet_at};
+
+use crate::command::{CommandReason, GpdCommand, short};
+use crate::field::{number16, rest};
+use crate::value::value_size;
+use gp_base::Reader;
+
+/// Reads a report after its identifier: a cluster, and entries to the end.
+pub(crate) fn read_report(octets: &[u8], reader: &mut Reader) -> Result<GpdCommand, CommandReason>
+    requires same { reader.old.octets ≡ octets.now }
+    requires place { reader.old.place ≡ 1 }
+    requires room { length octets.now ≤ 117 }
+    ensures { result ≡ answer (report_reason octets.now) (report_at octets.now) }
+{
+    let Some(cluster) = number16(reader) else {
+        return Err(short(octets));
+    };
+    if let Some(reason) = first_bad_entry(octets, 3) {
+        return Err(reason);
+    }
+    Ok(GpdCommand::Report {
+        cluster,
+        records: rest(reader),
+    })
+}
+
+/// What is wrong with the first ill entry among those from a place on, and `None` where none is ill.
+pub(crate) fn first_bad_entry(octets: &[u8], start: usize) -> Option<CommandReason>
+    requires within { start ≤ length octets.now }
+    requires room { length octets.now ≤ 127 }
+    ensures { result ≡ entries_reason (length octets.now) octets.now start }
+{
+    let mut place = start;
+    while place < octets.len() {
+        match entry_end(octets, place) {
+            Ok(end) => place = end,
+            Err(reason) => return Some(reason),
+        }
+    }
+    None
+}
+
+/// Where the entry ends that begins at a place, or what is wrong with it.
+fn entry_end(octets: &[u8], place: usize) -> Result<usize, CommandReason>
+    requires within { place < length octets.now }
+    requires room { length octets.now ≤ 127 }
+    ensures { EntryEnds octets.now place result }
+{
+    if octets.len() - place < 3 {
+        return Err(short(octets));
+    }
+    let kind = octets[place + 2];
+    let Some(size) = value_size(kind, octet_or_zero(octets, place + 3)) else {
+        return Err(CommandReason::ValueKind {
+            place: place as u8 + 2,
+        });
+    };
+    if octets.len() - place - 3 < size {
+        return Err(short(octets));
+    }
+    Ok(place + 3 + size)
+}
+
+/// The octet at a place, 0 where none is there.
+fn octet_or_zero(octets: &[u8], place: usize) -> u8
+    ensures { result ≡ octet_at octets.now place }
+{
+    octets.get(place).copied().unwrap_or(0)
+}
