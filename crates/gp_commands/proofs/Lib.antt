@@ -1,1 +1,4 @@
+pub mod Answers
 pub mod Entries
+pub mod Places
+pub mod Spelling

@@ -1,5 +1,5 @@
 -- Application information of a Commissioning (Zigbee PRO Green Power, A.4.2, Commissioning command).
-use Rattle.std.specs.Prelude.{ℕ, ◌+◌, ◌*◌, ◌/◌, ◌%◌, List, Option, if◌then◌else◌}
+use Rattle.std.specs.Prelude.{ℕ, ◌+◌, ◌*◌, ◌/◌, ◌%◌, Bool, true, List, length, ◌==◌, Option, Some, None, if◌then◌else◌}
 use Rattle.gp_commands.specs.declared.application.Application.{Application}
 use Rattle.gp_commands.specs.Fields.{bit, octet_at, octets_at, number16_at, size_if, value_if}
 
@@ -7,6 +7,11 @@ use Rattle.gp_commands.specs.Fields.{bit, octet_at, octets_at, number16_at, size
 -- those of clients in its bits 4 to 7
 abbrev pub clusters_size : ℕ → ℕ
 clusters_size counts = 2 * (counts % 16 + counts / 16)
+
+-- clusters are as many as their first octet says
+abbrev pub clusters_agree : Option (List ℕ) → Bool
+clusters_agree None = true
+clusters_agree (Some clusters) = length clusters == 1 + clusters_size (octet_at clusters 0)
 
 -- The places of its fields, where its first octet would stand at a place, and is there by bit 2 of the options.
 -- What a field's flags and counts say is read at its place; a missing octet counts as 0.

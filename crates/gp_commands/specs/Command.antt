@@ -66,18 +66,24 @@ pub record IsSound (c : GpdCommand) : Type 0 where
 
 -- ---- the first fault, and what is read without one
 
+-- the fault of octets that are fewer than so many
+abbrev pub ends_before : ℕ → List ℕ → Option CommandReason
+ends_before count b = if nat_lt (length b) count then Some (Short (length b)) else None
+
+-- the first fault of a payload of a form
 abbrev pub payload_reason : Form → List ℕ → Option CommandReason
 payload_reason forms.Plain b = None
 payload_reason forms.Move b = None
-payload_reason forms.Step b = if nat_lt (length b) 2 then Some (Short (length b)) else None
-payload_reason forms.Vector b = if nat_lt (length b) 2 then Some (Short (length b)) else None
+payload_reason forms.Step b = ends_before 2 b
+payload_reason forms.Vector b = ends_before 2 b
 payload_reason forms.Report b = report_reason b
 payload_reason forms.Commissioning b = commissioning_reason b
 payload_reason forms.Reply b = reply_reason b
-payload_reason forms.ChannelRequest b = if nat_lt (length b) 2 then Some (Short (length b)) else None
-payload_reason forms.ChannelConfig b = if nat_lt (length b) 2 then Some (Short (length b)) else None
+payload_reason forms.ChannelRequest b = ends_before 2 b
+payload_reason forms.ChannelConfig b = ends_before 2 b
 payload_reason forms.Other b = None
 
+-- what a payload of a form reads as
 abbrev pub payload_at : Form → List ℕ → GpdCommand
 payload_at forms.Plain b = Plain (octet_at b 0) (drop 1 b)
 payload_at forms.Move b = move_at b

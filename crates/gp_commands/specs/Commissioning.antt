@@ -1,6 +1,5 @@
 -- The Commissioning command (Zigbee PRO Green Power, A.4.2.1.1).
-use Rattle.std.specs.Prelude.{◌≡◌, ℕ, ◌+◌, ◌*◌, ◌/◌, ◌%◌, ◌<◌, ◌≤◌, ◌^◌, ◌==◌, nat_lt, Bool, true, if◌then◌else◌, ◌&&◌, ◌||◌, List, [], ◌∷◌, length, drop, Option, Some, None, is_some, unwrap_or, IfSome, IsTrue}
-use Rattle.std.specs.Option.{option_map_or}
+use Rattle.std.specs.Prelude.{◌≡◌, ℕ, ◌+◌, ◌*◌, ◌/◌, ◌%◌, ◌<◌, ◌≤◌, ◌^◌, ◌==◌, nat_lt, Bool, true, if◌then◌else◌, ◌&&◌, ◌||◌, List, [], ◌∷◌, ◌++◌, length, drop, Option, Some, None, is_some, unwrap_or, IfSome, IsTrue}
 use Rattle.std.specs.Int.{w16, w32, to_le_bytes}
 use Rattle.gp_base.specs.Table.{first_of}
 use Rattle.gp_commands.specs.declared.command.Commissioning.{Commissioning}
@@ -8,9 +7,9 @@ use Rattle.gp_commands.specs.declared.commissioning.Header.{Header}
 use Rattle.gp_commands.specs.declared.command.CommandReason.{CommandReason}
 use Rattle.gp_commands.specs.declared.command.CommandReason.TheVariants.{Short, ReservedLevel, ReservedKeyKind}
 use Rattle.gp_commands.specs.Fields.{bit, agree, octet, key_octets, counted, spelled, joined, octet_at, octets_at, number16_at, size_if, value_if}
-use Rattle.gp_commands.specs.Application.{clusters_size, application_end, application_at}
+use Rattle.gp_commands.specs.Application.{clusters_agree, application_end, application_at}
 use Rattle.gp_commands.specs.declared.keying.Wanted.{Wanted}
-use Rattle.gp_commands.specs.Keying.{keying_size, keying_at}
+use Rattle.gp_commands.specs.Keying.{keying_octets, keying_size, keying_at}
 
 -- ---- flags
 
@@ -29,39 +28,64 @@ wanted_by extended = record { key = bit 5 extended; mic = bit 5 extended && bit 
 -- ---- what a Commissioning is
 
 -- its octets after the identifier
-abbrev pub commissioning : Commissioning → List ℕ
+unfoldable pub commissioning : Commissioning → List ℕ
 commissioning c =
     joined
-      ( octet c.device
-      ∷ octet c.options
-      ∷ spelled octet c.extended
-      ∷ spelled key_octets c.key
-      ∷ spelled (λ mic. mic) c.key_mic
-      ∷ spelled (to_le_bytes w32) c.counter
-      ∷ spelled octet c.application
-      ∷ spelled (to_le_bytes w16) c.manufacturer
-      ∷ spelled (to_le_bytes w16) c.model
-      ∷ spelled counted c.commands
-      ∷ spelled (λ clusters. clusters) c.clusters
-      ∷ c.rest
-      ∷ [] )
+    (octet c.device
+    ∷ octet c.options
+    ∷ spelled octet c.extended
+    ∷ spelled key_octets c.key
+    ∷ spelled (λ mic. mic) c.key_mic
+    ∷ spelled (to_le_bytes w32) c.counter
+    ∷ spelled octet c.application
+    ∷ spelled (to_le_bytes w16) c.manufacturer
+    ∷ spelled (to_le_bytes w16) c.model
+    ∷ spelled counted c.commands
+    ∷ spelled (λ clusters. clusters) c.clusters
+    ∷ c.rest
+    ∷ [])
 
--- each field is there exactly where its flag says so, and the clusters are as many as their first octet says
-abbrev pub fields_agree : Commissioning → Bool
-fields_agree c =
-    let extended = unwrap_or c.extended 0 in
-    let wanted = wanted_by extended in
-    let application = unwrap_or c.application 0 in
+-- the part before the key, and the application information
+unfoldable pub header_octets : Commissioning → List ℕ
+header_octets c = joined (octet c.device ∷ octet c.options ∷ spelled octet c.extended ∷ [])
+
+unfoldable pub application_octets : Commissioning → List ℕ
+application_octets c =
+    joined
+    (spelled octet c.application
+    ∷ spelled (to_le_bytes w16) c.manufacturer
+    ∷ spelled (to_le_bytes w16) c.model
+    ∷ spelled counted c.commands
+    ∷ spelled (λ clusters. clusters) c.clusters
+    ∷ [])
+
+abbrev pub commissioning_in_parts : Commissioning → List ℕ
+commissioning_in_parts c =
+    header_octets c
+    ++ (keying_octets (record { key = c.key; mic = c.key_mic; counter = c.counter }) ++ (application_octets c ++ c.rest))
+
+-- The extended options, the key, its MIC and the counter are there exactly where their flags say so.
+abbrev pub security_agrees : Commissioning → Bool
+security_agrees c =
+    let wanted = wanted_by (unwrap_or c.extended 0) in
     agree (is_some c.extended) (bit 7 c.options)
     && agree (is_some c.key) wanted.key
     && agree (is_some c.key_mic) wanted.mic
     && agree (is_some c.counter) wanted.counter
-    && agree (is_some c.application) (bit 2 c.options)
-    && agree (is_some c.manufacturer) (bit 0 application)
-    && agree (is_some c.model) (bit 1 application)
-    && agree (is_some c.commands) (bit 2 application)
-    && agree (is_some c.clusters) (bit 3 application)
-    && option_map_or (λ clusters. length clusters == 1 + clusters_size (octet_at clusters 0)) c.clusters true
+
+-- So are the application information and its fields, and the clusters are as many as their first octet says.
+abbrev pub application_agrees : Commissioning → Bool
+application_agrees c =
+    let flags = unwrap_or c.application 0 in
+    agree (is_some c.application) (bit 2 c.options)
+    && agree (is_some c.manufacturer) (bit 0 flags)
+    && agree (is_some c.model) (bit 1 flags)
+    && agree (is_some c.commands) (bit 2 flags)
+    && agree (is_some c.clusters) (bit 3 flags)
+    && clusters_agree c.clusters
+
+abbrev pub fields_agree : Commissioning → Bool
+fields_agree c = security_agrees c && application_agrees c
 
 -- Keys have 16 octets and MICs 4, and numbers fit two or four octets.
 pub record HasCommissioningWidths (c : Commissioning) : Type 0 where
@@ -82,7 +106,7 @@ abbrev pub keying_place : List ℕ → ℕ
 keying_place b = 3 + size_if (bit 7 (octet_at b 2)) 1
 
 -- what stands before the key
-unfoldable pub header_at : List ℕ → Header
+abbrev pub header_at : List ℕ → Header
 header_at b = record { device = octet_at b 1; options = octet_at b 2; extended = value_if (bit 7 (octet_at b 2)) (octet_at b 3) }
 
 -- where the application information would stand
@@ -97,11 +121,11 @@ rest_place b = application_end (octet_at b 2) b (application_place b)
 abbrev pub commissioning_reason : List ℕ → Option CommandReason
 commissioning_reason b =
     first_of
-      ( (nat_lt (length b) (keying_place b), Short (length b))
-      ∷ (level (extended_at b) == 1, ReservedLevel)
-      ∷ ((key_kind (extended_at b) == 5) || (key_kind (extended_at b) == 6), ReservedKeyKind)
-      ∷ (nat_lt (length b) (rest_place b), Short (length b))
-      ∷ [] )
+    ((nat_lt (length b) (keying_place b), Short (length b))
+    ∷ (level (extended_at b) == 1, ReservedLevel)
+    ∷ ((key_kind (extended_at b) == 5) || (key_kind (extended_at b) == 6), ReservedKeyKind)
+    ∷ (nat_lt (length b) (rest_place b), Short (length b))
+    ∷ [])
 
 -- what stands at the places
 abbrev pub commissioning_at : List ℕ → Commissioning

@@ -86,7 +86,7 @@ Takes size field old new taken =
 abbrev pub TakesTo : {X : Type 0} → ℕ → X → Walk → Walk → Option X → Type 0
 TakesTo end part old new taken =
     MatchOption taken (length old.octets < end)
-        (λ x. (x ≡ part) × (new.octets ≡ old.octets) × (new.place ≡ end) × (end ≤ length old.octets))
+    (λ x. (x ≡ part) × (new.octets ≡ old.octets) × (new.place ≡ end) × (end ≤ length old.octets))
 
 -- The walk stands in the octets, or at their end.
 abbrev pub IsWithin : Walk → Type 0

@@ -1,6 +1,6 @@
 -- A key, its MIC and a counter, each there or not, as Commissioning and its reply carry them
 -- (Zigbee PRO Green Power, A.4.2, Commissioning and Commissioning Reply commands).
-use Rattle.std.specs.Prelude.{ℕ, ◌+◌, ◌==◌, ◌||◌, Bool, List, ◌++◌, ◌∷◌, [], Option}
+use Rattle.std.specs.Prelude.{◌≡◌, ℕ, ◌+◌, ◌<◌, ◌^◌, length, IfSome, ◌==◌, ◌||◌, Bool, List, ◌++◌, ◌∷◌, [], Option}
 use Rattle.std.specs.Int.{w32, to_le_bytes}
 use Rattle.gp_base.specs.Table.{first_of}
 use Rattle.gp_commands.specs.declared.keying.Keying.{Keying}
@@ -16,6 +16,12 @@ reserved level kind = first_of ((level == 1, ReservedLevel) ∷ ((kind == 5) || 
 -- the octets of the three
 unfoldable pub keying_octets : Keying → List ℕ
 keying_octets keying = spelled key_octets keying.key ++ (spelled (λ mic. mic) keying.mic ++ spelled (to_le_bytes w32) keying.counter)
+
+-- The key has 16 octets and the MIC 4, and the counter fits four octets.
+pub record HasKeyingWidths (keying : Keying) : Type 0 where
+  pub key : IfSome keying.key (λ key. length (key_octets key) ≡ 16)
+  pub mic : IfSome keying.mic (λ mic. length mic ≡ 4)
+  pub counter : IfSome keying.counter (λ n. n < 2 ^ 32)
 
 -- how many octets they take
 unfoldable pub keying_size : Wanted → ℕ

@@ -21,4 +21,4 @@ move_at b = Move (octet_at b 0) (value_if (nat_le 2 (length b)) (octet_at b 1)) 
 abbrev pub step_at : List ℕ → GpdCommand
 step_at b =
     Step (octet_at b 0) (octet_at b 1) (value_if (nat_le 4 (length b)) (number16_at b 2))
-        (drop (2 + size_if (nat_le 4 (length b)) 2) b)
+    (drop (2 + size_if (nat_le 4 (length b)) 2) b)

@@ -1,5 +1,5 @@
 -- The Commissioning Reply command (Zigbee PRO Green Power, A.4.2, Commissioning Reply command).
-use Rattle.std.specs.Prelude.{◌≡◌, ℕ, ◌+◌, ◌/◌, ◌%◌, ◌^◌, ◌<◌, ◌==◌, IfSome, nat_lt, Bool, ◌&&◌, ◌||◌, List, [], ◌∷◌, length, drop, Option, is_some}
+use Rattle.std.specs.Prelude.{◌≡◌, ℕ, ◌+◌, ◌/◌, ◌%◌, ◌^◌, ◌<◌, ◌==◌, IfSome, nat_lt, Bool, ◌&&◌, ◌||◌, List, [], ◌∷◌, ◌++◌, length, drop, Option, is_some}
 use Rattle.std.specs.Int.{w16, w32, to_le_bytes}
 use Rattle.gp_base.specs.Table.{first_of}
 use Rattle.gp_commands.specs.declared.command.Reply.{Reply}
@@ -7,7 +7,7 @@ use Rattle.gp_commands.specs.declared.command.CommandReason.{CommandReason}
 use Rattle.gp_commands.specs.declared.command.CommandReason.TheVariants.{Short, ReservedLevel, ReservedKeyKind}
 use Rattle.gp_commands.specs.Fields.{bit, agree, octet, key_octets, spelled, joined, octet_at, number16_at, size_if, value_if}
 use Rattle.gp_commands.specs.declared.keying.Wanted.{Wanted}
-use Rattle.gp_commands.specs.Keying.{keying_size, keying_at}
+use Rattle.gp_commands.specs.Keying.{keying_octets, keying_size, keying_at}
 
 -- ---- flags
 
@@ -26,16 +26,23 @@ reply_wanted options = record { key = bit 1 options; mic = bit 1 options && bit 
 -- ---- what a Reply is
 
 -- its octets after the identifier
-abbrev pub reply : Reply → List ℕ
+unfoldable pub reply : Reply → List ℕ
 reply r =
     joined
-      ( octet r.options
-      ∷ spelled (to_le_bytes w16) r.pan
-      ∷ spelled key_octets r.key
-      ∷ spelled (λ mic. mic) r.key_mic
-      ∷ spelled (to_le_bytes w32) r.counter
-      ∷ r.rest
-      ∷ [] )
+    (octet r.options
+    ∷ spelled (to_le_bytes w16) r.pan
+    ∷ spelled key_octets r.key
+    ∷ spelled (λ mic. mic) r.key_mic
+    ∷ spelled (to_le_bytes w32) r.counter
+    ∷ r.rest
+    ∷ [])
+
+-- the part before the key
+unfoldable pub reply_header_octets : Reply → List ℕ
+reply_header_octets r = joined (octet r.options ∷ spelled (to_le_bytes w16) r.pan ∷ [])
+
+abbrev pub reply_in_parts : Reply → List ℕ
+reply_in_parts r = reply_header_octets r ++ (keying_octets (record { key = r.key; mic = r.key_mic; counter = r.counter }) ++ r.rest)
 
 -- each field is there exactly where its flag says so
 abbrev pub reply_fields_agree : Reply → Bool
@@ -67,11 +74,11 @@ reply_rest_place b = reply_keying_place b + keying_size (reply_wanted (octet_at 
 abbrev pub reply_reason : List ℕ → Option CommandReason
 reply_reason b =
     first_of
-      ( (nat_lt (length b) 2, Short (length b))
-      ∷ (reply_level (octet_at b 1) == 1, ReservedLevel)
-      ∷ ((reply_key_kind (octet_at b 1) == 5) || (reply_key_kind (octet_at b 1) == 6), ReservedKeyKind)
-      ∷ (nat_lt (length b) (reply_rest_place b), Short (length b))
-      ∷ [] )
+    ((nat_lt (length b) 2, Short (length b))
+    ∷ (reply_level (octet_at b 1) == 1, ReservedLevel)
+    ∷ ((reply_key_kind (octet_at b 1) == 5) || (reply_key_kind (octet_at b 1) == 6), ReservedKeyKind)
+    ∷ (nat_lt (length b) (reply_rest_place b), Short (length b))
+    ∷ [])
 
 -- what stands at the places
 abbrev pub reply_at : List ℕ → Reply

@@ -46,10 +46,10 @@ next_place b place = place + 3 + unwrap_or (value_size_at b place) 0
 abbrev pub entry_reason : List ℕ → ℕ → Option CommandReason
 entry_reason b place =
     first_of
-      ( (nat_lt (length b) (place + 3), Short (length b))
-      ∷ (is_none (value_size_at b place), ValueKind (place + 2))
-      ∷ (nat_lt (length b) (next_place b place), Short (length b))
-      ∷ [] )
+    ((nat_lt (length b) (place + 3), Short (length b))
+    ∷ (is_none (value_size_at b place), ValueKind (place + 2))
+    ∷ (nat_lt (length b) (next_place b place), Short (length b))
+    ∷ [])
 
 -- The entry that begins at a place ends here, or this is what is wrong with it.
 abbrev pub EntryEnds : List ℕ → ℕ → Result ℕ CommandReason → Type 0

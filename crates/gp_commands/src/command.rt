@@ -5,16 +5,44 @@ use gp_base::{Key, Octets};
 /// A device command.
 #[derive(Clone, Debug, PartialEq, Eq, Drop)]
 pub enum GpdCommand {
-    Plain { id: u8, rest: Octets },
-    Move { id: u8, rate: Option<u8>, rest: Octets },
-    Step { id: u8, size: u8, time: Option<u16>, rest: Octets },
-    Vector { id: u8, value: u8, rest: Octets },
-    Report { cluster: u16, records: Octets },
+    Plain {
+        id: u8,
+        rest: Octets,
+    },
+    Move {
+        id: u8,
+        rate: Option<u8>,
+        rest: Octets,
+    },
+    Step {
+        id: u8,
+        size: u8,
+        time: Option<u16>,
+        rest: Octets,
+    },
+    Vector {
+        id: u8,
+        value: u8,
+        rest: Octets,
+    },
+    Report {
+        cluster: u16,
+        records: Octets,
+    },
     Commissioning(Commissioning),
     Reply(Reply),
-    ChannelRequest { value: u8, rest: Octets },
-    ChannelConfig { value: u8, rest: Octets },
-    Other { id: u8, rest: Octets },
+    ChannelRequest {
+        value: u8,
+        rest: Octets,
+    },
+    ChannelConfig {
+        value: u8,
+        rest: Octets,
+    },
+    Other {
+        id: u8,
+        rest: Octets,
+    },
 }
 
 #[derive(Clone, Debug, PartialEq, Eq, Drop)]

@@ -1,14 +1,18 @@
 //! The Commissioning command.
 
-ghost use Rattle.std.specs.Prelude.{◌≡◌, ◌≤◌, length};
-ghost use Rattle.gp_commands.specs.Fields.{TakesTo, answer};
-ghost use Rattle.gp_commands.specs.Commissioning.{keying_place, header_at, commissioning_reason, commissioning_at};
+ghost use Rattle.std.specs.Prelude.{◌≡◌, ◌≤◌, ◌<◌, ◌^◌, length, IfSome, OnSome};
+ghost use Rattle.gp_commands.specs.Fields.{TakesTo, Adds, answer};
+ghost use Rattle.gp_commands.specs.Application;
+ghost use Rattle.gp_commands.specs.Commissioning.{keying_place, header_at, commissioning_reason, commissioning_at, commissioning, commissioning_in_parts, header_octets, application_octets, HasCommissioningWidths};
 
-use crate::application::take_application;
+use crate::application::{clusters_size, take_application};
 use crate::command::{CommandReason, Commissioning, short};
-use crate::field::{is_set, octet, octet_if, rest};
-use crate::keying::{Wanted, reserved_reason, take_keying};
-use gp_base::Reader;
+use crate::field::{
+    add, add_counted_if, add_number16_if, add_octet, add_octet_if, add_octets_if, is_set, octet,
+    octet_if, octet_or_zero, rest,
+};
+use crate::keying::{Keying, Wanted, add_keying, reserved_reason, take_keying};
+use gp_base::{Octets, Reader};
 
 /// What stands before the keys.
 #[derive(Clone, Copy, Debug)]
@@ -19,7 +23,6 @@ struct Header {
 }
 
 /// Takes the header.
-#[tactic(auto, unfolding(crate::specs::Commissioning::header_at))]
 fn take_header(reader: &mut Reader) -> Option<Header>
     requires { reader.old.place ≡ 1 }
     ensures { TakesTo (keying_place reader.old.octets) (header_at reader.old.octets) reader.old reader.new result }
@@ -47,7 +50,11 @@ fn wanted_by(extended: u8) -> Wanted
 }
 
 /// Reads a Commissioning after its identifier.
-pub(crate) fn read_commissioning(octets: &[u8], reader: &mut Reader) -> Result<Commissioning, CommandReason>
+#[tactic(auto, using(crate::proofs::Places::application_end_above))]
+pub(crate) fn read_commissioning(
+    octets: &[u8],
+    reader: &mut Reader,
+) -> Result<Commissioning, CommandReason>
     requires same { reader.old.octets ≡ octets.now }
     requires place { reader.old.place ≡ 1 }
     requires room { length octets.now ≤ 117 }
@@ -80,4 +87,100 @@ pub(crate) fn read_commissioning(octets: &[u8], reader: &mut Reader) -> Result<C
         clusters: application.clusters,
         rest: rest(reader),
     })
+}
+
+/// Whether each field is there exactly where its flag says so, and the clusters are as many as their first octet
+/// says.
+pub(crate) fn fields_agree(c: &Commissioning) -> bool
+    ensures { result ≡ Rattle.gp_commands.specs.Commissioning.fields_agree c.now }
+{
+    security_agrees(c) && application_agrees(c)
+}
+
+/// Whether the extended options, the key, its MIC and the counter are there where their flags say so.
+fn security_agrees(c: &Commissioning) -> bool
+    ensures { result ≡ Rattle.gp_commands.specs.Commissioning.security_agrees c.now }
+{
+    let wanted = wanted_by(c.extended.unwrap_or(0));
+    c.extended.is_some() == is_set(c.options, 128)
+        && c.key.is_some() == wanted.key
+        && c.key_mic.is_some() == wanted.mic
+        && c.counter.is_some() == wanted.counter
+}
+
+/// Whether the application information and its fields are there where their flags say so.
+fn application_agrees(c: &Commissioning) -> bool
+    ensures { result ≡ Rattle.gp_commands.specs.Commissioning.application_agrees c.now }
+{
+    let flags = c.application.unwrap_or(0);
+    c.application.is_some() == is_set(c.options, 4)
+        && c.manufacturer.is_some() == is_set(flags, 1)
+        && c.model.is_some() == is_set(flags, 2)
+        && c.commands.is_some() == is_set(flags, 4)
+        && c.clusters.is_some() == is_set(flags, 8)
+        && clusters_agree(&c.clusters)
+}
+
+/// Whether clusters are as many as their first octet says.
+fn clusters_agree(clusters: &Option<Octets>) -> bool
+    ensures { result ≡ Rattle.gp_commands.specs.Application.clusters_agree clusters.now }
+{
+    match clusters {
+        Some(clusters) => {
+            let clusters = clusters.as_slice();
+            let counts = octet_or_zero(clusters, 0);
+            clusters.len() == 1 + clusters_size(counts)
+        }
+        None => true,
+    }
+}
+
+/// Adds a Commissioning without its identifier.
+pub(crate) fn add_commissioning(out: &mut Octets, c: &Commissioning) -> Option<()>
+    ensures added { Adds (commissioning c.now) out.old out.new result }
+    ensures widths { OnSome result (HasCommissioningWidths c.now) }
+{
+    add_parts(out, c)
+}
+
+/// Adds its three parts and the rest.
+fn add_parts(out: &mut Octets, c: &Commissioning) -> Option<()>
+    ensures added { Adds (commissioning_in_parts c.now) out.old out.new result }
+    ensures widths { OnSome result (HasCommissioningWidths c.now) }
+{
+    add_header(out, c)?;
+    add_keying(
+        out,
+        Keying {
+            key: c.key,
+            mic: c.key_mic,
+            counter: c.counter,
+        },
+    )?;
+    add_application(out, c)?;
+    add(out, c.rest.as_slice())
+}
+
+/// Adds the header.
+#[tactic(auto, unfolding(crate::specs::Commissioning::header_octets))]
+fn add_header(out: &mut Octets, c: &Commissioning) -> Option<()>
+    ensures { Adds (header_octets c.now) out.old out.new result }
+{
+    add_octet(out, c.device)?;
+    add_octet(out, c.options)?;
+    add_octet_if(out, c.extended)
+}
+
+/// Adds the application information.
+#[tactic(auto, unfolding(crate::specs::Commissioning::application_octets))]
+fn add_application(out: &mut Octets, c: &Commissioning) -> Option<()>
+    ensures added { Adds (application_octets c.now) out.old out.new result }
+    ensures manufacturer { OnSome result (IfSome c.now.manufacturer (λ n. n < 2 ^ 16)) }
+    ensures model { OnSome result (IfSome c.now.model (λ n. n < 2 ^ 16)) }
+{
+    add_octet_if(out, c.application)?;
+    add_number16_if(out, c.manufacturer)?;
+    add_number16_if(out, c.model)?;
+    add_counted_if(out, &c.commands)?;
+    add_octets_if(out, &c.clusters)
 }

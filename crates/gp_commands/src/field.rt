@@ -16,6 +16,13 @@ pub(crate) fn is_set(octet: u8, weight: u8) -> bool
     octet / weight % 2 == 1
 }
 
+/// The octet at a place, 0 where none is there.
+pub(crate) fn octet_or_zero(octets: &[u8], place: usize) -> u8
+    ensures { result ≡ octet_at octets.now place }
+{
+    octets.get(place).copied().unwrap_or(0)
+}
+
 // ---- taken from a reader
 
 /// The next octet. `None`, as in all these readers, says that an octet of the field is missing, and leaves the

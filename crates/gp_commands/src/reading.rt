@@ -1,7 +1,8 @@
 //! Commands are read and written.
 
-ghost use Rattle.std.specs.Prelude.{◌≡◌, ◌≤◌, length};
-ghost use Rattle.gp_commands.specs.Command.{reading};
+ghost use Rattle.std.specs.Prelude.{◌≡◌, ◌≤◌, length, drop};
+ghost use Rattle.gp_commands.specs.Fields.{answer, octet_at};
+ghost use Rattle.gp_commands.specs.Command.{ends_before, reading};
 
 use crate::command::{CommandReason, GpdCommand, short};
 use crate::commissioning::read_commissioning;
@@ -10,7 +11,20 @@ use crate::form::{Form, form_of};
 use crate::level::{read_move, read_step};
 use crate::reply::read_reply;
 use crate::report::read_report;
-use gp_base::Reader;
+use gp_base::{Octets, Reader};
+
+/// Reads one octet and the rest, after an identifier.
+fn read_single(octets: &[u8], reader: &mut Reader) -> Result<(u8, Octets), CommandReason>
+    requires same { reader.old.octets ≡ octets.now }
+    requires place { reader.old.place ≡ 1 }
+    requires room { length octets.now ≤ 117 }
+    ensures { result ≡ answer (ends_before 2 octets.now) (octet_at octets.now 1, drop 2 octets.now) }
+{
+    let Some(value) = octet(reader) else {
+        return Err(short(octets));
+    };
+    Ok((value, rest(reader)))
+}
 
 /// Reads a command by its places.
 #[tactic(auto, unfolding(crate::specs::Command::reading, crate::specs::Forms::form_of))]
@@ -30,12 +44,8 @@ fn read_all(octets: &[u8]) -> Result<GpdCommand, CommandReason>
         Form::Move => Ok(read_move(id, &mut reader)),
         Form::Step => read_step(id, &mut reader).ok_or(short(octets)),
         Form::Vector => {
-            let value = octet(&mut reader).ok_or(short(octets))?;
-            Ok(GpdCommand::Vector {
-                id,
-                value,
-                rest: rest(&mut reader),
-            })
+            let (value, rest) = read_single(octets, &mut reader)?;
+            Ok(GpdCommand::Vector { id, value, rest })
         }
         Form::Report => read_report(octets, &mut reader),
         Form::Commissioning => Ok(GpdCommand::Commissioning(read_commissioning(
@@ -44,18 +54,12 @@ fn read_all(octets: &[u8]) -> Result<GpdCommand, CommandReason>
         )?)),
         Form::Reply => Ok(GpdCommand::Reply(read_reply(octets, &mut reader)?)),
         Form::ChannelRequest => {
-            let value = octet(&mut reader).ok_or(short(octets))?;
-            Ok(GpdCommand::ChannelRequest {
-                value,
-                rest: rest(&mut reader),
-            })
+            let (value, rest) = read_single(octets, &mut reader)?;
+            Ok(GpdCommand::ChannelRequest { value, rest })
         }
         Form::ChannelConfig => {
-            let value = octet(&mut reader).ok_or(short(octets))?;
-            Ok(GpdCommand::ChannelConfig {
-                value,
-                rest: rest(&mut reader),
-            })
+            let (value, rest) = read_single(octets, &mut reader)?;
+            Ok(GpdCommand::ChannelConfig { value, rest })
         }
         Form::Other => Ok(GpdCommand::Other {
             id,

@@ -1,13 +1,13 @@
 //! The Commissioning Reply command.
 
-ghost use Rattle.std.specs.Prelude.{◌≡◌, ◌≤◌, length};
-ghost use Rattle.gp_commands.specs.Fields.{answer};
-ghost use Rattle.gp_commands.specs.Reply.{reply_reason, reply_at};
+ghost use Rattle.std.specs.Prelude.{◌≡◌, ◌≤◌, ◌<◌, ◌^◌, length, IfSome, OnSome};
+ghost use Rattle.gp_commands.specs.Fields.{Adds, answer};
+ghost use Rattle.gp_commands.specs.Reply.{reply_reason, reply_at, reply_fields_agree, reply_in_parts, reply_header_octets, HasReplyWidths};
 
 use crate::command::{CommandReason, Reply, short};
-use crate::field::{is_set, number16_if, octet, rest};
-use crate::keying::{Wanted, reserved_reason, take_keying};
-use gp_base::Reader;
+use crate::field::{add, add_number16_if, add_octet, is_set, number16_if, octet, rest};
+use crate::keying::{Keying, Wanted, add_keying, reserved_reason, take_keying};
+use gp_base::{Octets, Reader};
 
 /// Which of key, MIC and counter the options say to be there.
 fn wanted_by(options: u8) -> Wanted
@@ -49,4 +49,50 @@ pub(crate) fn read_reply(octets: &[u8], reader: &mut Reader) -> Result<Reply, Co
         counter: keying.counter,
         rest: rest(reader),
     })
+}
+
+/// Whether each field is there exactly where its flag says so.
+pub(crate) fn fields_agree(reply: &Reply) -> bool
+    ensures { result ≡ reply_fields_agree reply.now }
+{
+    let wanted = wanted_by(reply.options);
+    reply.pan.is_some() == is_set(reply.options, 1)
+        && reply.key.is_some() == wanted.key
+        && reply.key_mic.is_some() == wanted.mic
+        && reply.counter.is_some() == wanted.counter
+}
+
+/// Adds a Reply without its identifier.
+pub(crate) fn add_reply(out: &mut Octets, reply: &Reply) -> Option<()>
+    ensures added { Adds (Rattle.gp_commands.specs.Reply.reply reply.now) out.old out.new result }
+    ensures widths { OnSome result (HasReplyWidths reply.now) }
+{
+    add_parts(out, reply)
+}
+
+/// Adds its two parts and the rest.
+fn add_parts(out: &mut Octets, reply: &Reply) -> Option<()>
+    ensures added { Adds (reply_in_parts reply.now) out.old out.new result }
+    ensures widths { OnSome result (HasReplyWidths reply.now) }
+{
+    add_header(out, reply)?;
+    add_keying(
+        out,
+        Keying {
+            key: reply.key,
+            mic: reply.key_mic,
+            counter: reply.counter,
+        },
+    )?;
+    add(out, reply.rest.as_slice())
+}
+
+/// Adds the part before the key.
+#[tactic(auto, unfolding(crate::specs::Reply::reply_header_octets))]
+fn add_header(out: &mut Octets, reply: &Reply) -> Option<()>
+    ensures added { Adds (reply_header_octets reply.now) out.old out.new result }
+    ensures pan { OnSome result (IfSome reply.now.pan (λ n. n < 2 ^ 16)) }
+{
+    add_octet(out, reply.options)?;
+    add_number16_if(out, reply.pan)
 }

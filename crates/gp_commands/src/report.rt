@@ -1,11 +1,11 @@
 //! Attribute reports.
 
-ghost use Rattle.std.specs.Prelude.{◌≡◌, ◌+◌, ◌<◌, ◌≤◌, length, IfOk, MatchResult};
+ghost use Rattle.std.specs.Prelude.{◌≡◌, ◌<◌, ◌≤◌, length};
 ghost use Rattle.gp_commands.specs.Report.{entries_reason, report_reason, report_at, EntryEnds};
-ghost use Rattle.gp_commands.specs.Fields.{answer, octet_at};
+ghost use Rattle.gp_commands.specs.Fields.{answer};
 
 use crate::command::{CommandReason, GpdCommand, short};
-use crate::field::{number16, rest};
+use crate::field::{number16, octet_or_zero, rest};
 use crate::value::value_size;
 use gp_base::Reader;
 
@@ -63,11 +63,4 @@ fn entry_end(octets: &[u8], place: usize) -> Result<usize, CommandReason>
         return Err(short(octets));
     }
     Ok(place + 3 + size)
-}
-
-/// The octet at a place, 0 where none is there.
-fn octet_or_zero(octets: &[u8], place: usize) -> u8
-    ensures { result ≡ octet_at octets.now place }
-{
-    octets.get(place).copied().unwrap_or(0)
 }

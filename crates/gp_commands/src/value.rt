@@ -46,29 +46,81 @@ impl ValueLine {
 /// The table of types.
 pub(crate) const VALUES: [ValueLine; 13] = [
     // general data of 8 to 64 bits
-    ValueLine { first: 0x08, last: 0x0F, size: ValueSize::Rising },
+    ValueLine {
+        first: 0x08,
+        last: 0x0F,
+        size: ValueSize::Rising,
+    },
     // boolean
-    ValueLine { first: 0x10, last: 0x10, size: ValueSize::Fixed(1) },
+    ValueLine {
+        first: 0x10,
+        last: 0x10,
+        size: ValueSize::Fixed(1),
+    },
     // bitmaps of 8 to 64 bits
-    ValueLine { first: 0x18, last: 0x1F, size: ValueSize::Rising },
+    ValueLine {
+        first: 0x18,
+        last: 0x1F,
+        size: ValueSize::Rising,
+    },
     // unsigned integers of 8 to 64 bits
-    ValueLine { first: 0x20, last: 0x27, size: ValueSize::Rising },
+    ValueLine {
+        first: 0x20,
+        last: 0x27,
+        size: ValueSize::Rising,
+    },
     // signed integers of 8 to 64 bits
-    ValueLine { first: 0x28, last: 0x2F, size: ValueSize::Rising },
+    ValueLine {
+        first: 0x28,
+        last: 0x2F,
+        size: ValueSize::Rising,
+    },
     // enumerations of 8 and 16 bits
-    ValueLine { first: 0x30, last: 0x31, size: ValueSize::Rising },
+    ValueLine {
+        first: 0x30,
+        last: 0x31,
+        size: ValueSize::Rising,
+    },
     // semi-precision, single and double precision, carried as octets
-    ValueLine { first: 0x38, last: 0x38, size: ValueSize::Fixed(2) },
-    ValueLine { first: 0x39, last: 0x39, size: ValueSize::Fixed(4) },
-    ValueLine { first: 0x3A, last: 0x3A, size: ValueSize::Fixed(8) },
+    ValueLine {
+        first: 0x38,
+        last: 0x38,
+        size: ValueSize::Fixed(2),
+    },
+    ValueLine {
+        first: 0x39,
+        last: 0x39,
+        size: ValueSize::Fixed(4),
+    },
+    ValueLine {
+        first: 0x3A,
+        last: 0x3A,
+        size: ValueSize::Fixed(8),
+    },
     // octet string, character string
-    ValueLine { first: 0x41, last: 0x42, size: ValueSize::Counted },
+    ValueLine {
+        first: 0x41,
+        last: 0x42,
+        size: ValueSize::Counted,
+    },
     // time of day, date, UTC time
-    ValueLine { first: 0xE0, last: 0xE2, size: ValueSize::Fixed(4) },
+    ValueLine {
+        first: 0xE0,
+        last: 0xE2,
+        size: ValueSize::Fixed(4),
+    },
     // cluster identifier, attribute identifier
-    ValueLine { first: 0xE8, last: 0xE9, size: ValueSize::Fixed(2) },
+    ValueLine {
+        first: 0xE8,
+        last: 0xE9,
+        size: ValueSize::Fixed(2),
+    },
     // IEEE address
-    ValueLine { first: 0xF0, last: 0xF0, size: ValueSize::Fixed(8) },
+    ValueLine {
+        first: 0xF0,
+        last: 0xF0,
+        size: ValueSize::Fixed(8),
+    },
 ];
 
 /// The size of a value of this type, whose first octet is `first`. It is `None` for a type outside the table.
