@@ -1,4 +1,5 @@
 pub mod Answers
+pub mod Codec
 pub mod Entries
 pub mod Places
 pub mod Spelling

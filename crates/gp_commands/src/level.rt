@@ -1,11 +1,12 @@
 //! Move and Step of level control.
 
-ghost use Rattle.std.specs.Prelude.{◌≡◌, ◌<◌, ◌≤◌, length, Some, None, IsTrue, ◌↔◌, nat_lt, if◌then◌else◌};
-ghost use Rattle.gp_commands.specs.Fields.{octet_at};
+ghost use Rattle.std.specs.Prelude.{◌≡◌, ◌<◌, ◌≤◌, ◌^◌, ◌↔◌, ◌∷◌, ◌++◌, length, nat_lt, Some, None, IsTrue, IfSome, OnSome, if◌then◌else◌};
+ghost use Rattle.std.specs.Int.{w16, to_le_bytes};
+ghost use Rattle.gp_commands.specs.Fields.{Adds, octet as one, octet_at, spelled};
 ghost use Rattle.gp_commands.specs.Level.{move_at, step_at, HasMoveRest, HasStepRest};
 
 use crate::command::GpdCommand;
-use crate::field::{number16, octet, rest};
+use crate::field::{add, add_number16_if, add_octet, add_octet_if, number16, octet, rest};
 use gp_base::{Octets, Reader};
 
 /// Reads a Move after its identifier: the rate is there where an octet is left.
@@ -54,4 +55,29 @@ pub(crate) fn has_step_rest(time: Option<u16>, rest: &Octets) -> bool
     ensures { IsTrue result ↔ HasStepRest time rest.now }
 {
     time.is_some() || rest.as_slice().len() <= 1
+}
+
+/// Adds a Move.
+pub(crate) fn add_move(out: &mut Octets, id: u8, rate: Option<u8>, rest: &Octets) -> Option<()>
+    ensures { Adds (id ∷ (spelled one rate ++ rest.now)) out.old out.new result }
+{
+    add_octet(out, id)?;
+    add_octet_if(out, rate)?;
+    add(out, rest.as_slice())
+}
+
+/// Adds a Step.
+pub(crate) fn add_step(
+    out: &mut Octets,
+    id: u8,
+    size: u8,
+    time: Option<u16>,
+    rest: &Octets,
+) -> Option<()>
+    ensures added { Adds (id ∷ size ∷ (spelled (to_le_bytes w16) time ++ rest.now)) out.old out.new result }
+    ensures width { OnSome result (IfSome time (λ n. n < 2 ^ 16)) }
+{
+    add(out, &[id, size])?;
+    add_number16_if(out, time)?;
+    add(out, rest.as_slice())
 }

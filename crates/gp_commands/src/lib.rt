@@ -12,6 +12,7 @@ mod reading;
 mod reply;
 mod report;
 mod value;
+mod writing;
 
 pub use command::{CommandReason, Commissioning, GpdCommand, Reply};
 

@@ -1,13 +1,15 @@
 //! Attribute reports.
 
-ghost use Rattle.std.specs.Prelude.{◌≡◌, ◌<◌, ◌≤◌, length};
-ghost use Rattle.gp_commands.specs.Report.{entries_reason, report_reason, report_at, EntryEnds};
-ghost use Rattle.gp_commands.specs.Fields.{answer};
+ghost use Rattle.std.specs.Prelude.{◌≡◌, ◌<◌, ◌≤◌, ◌^◌, ◌↔◌, ◌∷◌, ◌++◌, length, IsTrue, OnSome};
+ghost use Rattle.gp_commands.specs.Report.{entries_reason, report_reason, report_at, EntryEnds, AreRecords};
+ghost use Rattle.std.specs.Int.{w16, to_le_bytes};
+ghost use Rattle.gp_commands.specs.Fields.{Adds, answer};
 
 use crate::command::{CommandReason, GpdCommand, short};
-use crate::field::{number16, octet_or_zero, rest};
+use crate::field::{add, add_number16, add_octet, number16, octet_or_zero, rest};
+use crate::form::REPORT;
 use crate::value::value_size;
-use gp_base::Reader;
+use gp_base::{Octets, Reader};
 
 /// Reads a report after its identifier: a cluster, and entries to the end.
 pub(crate) fn read_report(octets: &[u8], reader: &mut Reader) -> Result<GpdCommand, CommandReason>
@@ -63,4 +65,22 @@ fn entry_end(octets: &[u8], place: usize) -> Result<usize, CommandReason>
         return Err(short(octets));
     }
     Ok(place + 3 + size)
+}
+
+/// Whether octets are entries, one after another.
+pub(crate) fn are_records(octets: &[u8]) -> bool
+    requires { length octets.now ≤ 127 }
+    ensures { IsTrue result ↔ AreRecords octets.now }
+{
+    first_bad_entry(octets, 0).is_none()
+}
+
+/// Adds a report.
+pub(crate) fn add_report(out: &mut Octets, cluster: u16, records: &Octets) -> Option<()>
+    ensures added { Adds (REPORT ∷ (to_le_bytes w16 cluster ++ records.now)) out.old out.new result }
+    ensures width { OnSome result (cluster < 2 ^ 16) }
+{
+    add_octet(out, REPORT)?;
+    add_number16(out, cluster)?;
+    add(out, records.as_slice())
 }

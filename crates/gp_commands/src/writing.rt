@@ -1,0 +1,92 @@
+//! Which commands have a spelling, and that spelling.
+
+ghost use Rattle.std.specs.Prelude.{◌≡◌, ◌∷◌, ◌<◌, ◌↔◌, length, IsTrue, OnSome, MatchOption};
+ghost use Rattle.gp_commands.specs.Fields.{Adds};
+ghost use Rattle.gp_commands.specs.Command.{spelling, HasForm, HasWidths};
+
+use crate::command::GpdCommand;
+use crate::commissioning::{self, add_commissioning};
+use crate::field::{add, add_octet};
+use crate::form::{CHANNEL_CONFIG, CHANNEL_REQUEST, COMMISSIONING, Form, REPLY, form_of};
+use crate::level::{add_move, add_step, has_move_rest, has_step_rest};
+use crate::reply::{self, add_reply};
+use crate::report::{add_report, are_records};
+use gp_base::Octets;
+
+/// Whether the identifier is one of the variant's, and each field is there where it is to be.
+pub(crate) fn has_form(command: &GpdCommand) -> bool
+    ensures { IsTrue result ↔ HasForm command.now }
+{
+    match command {
+        GpdCommand::Plain { id, .. } => form_of(*id) == Form::Plain,
+        GpdCommand::Move { id, rate, rest } => {
+            form_of(*id) == Form::Move && has_move_rest(*rate, rest)
+        }
+        GpdCommand::Step { id, time, rest, .. } => {
+            form_of(*id) == Form::Step && has_step_rest(*time, rest)
+        }
+        GpdCommand::Vector { id, .. } => form_of(*id) == Form::Vector,
+        GpdCommand::Report { records, .. } => are_records(records.as_slice()),
+        GpdCommand::Commissioning(c) => commissioning::fields_agree(c),
+        GpdCommand::Reply(r) => reply::fields_agree(r),
+        GpdCommand::ChannelRequest { .. } => true,
+        GpdCommand::ChannelConfig { .. } => true,
+        GpdCommand::Other { id, .. } => form_of(*id) == Form::Other,
+    }
+}
+
+/// The octets of a command, `None` where they are more than 127.
+pub(crate) fn spell(command: &GpdCommand) -> Option<Octets>
+    ensures octets { MatchOption result (127 < length (spelling command.now)) (λ octets. octets ≡ spelling command.now) }
+    ensures widths { OnSome result (HasWidths command.now) }
+{
+    let mut out = Octets::new();
+    add_command(&mut out, command)?;
+    Some(out)
+}
+
+/// Adds a command.
+fn add_command(out: &mut Octets, command: &GpdCommand) -> Option<()>
+    ensures added { Adds (spelling command.now) out.old out.new result }
+    ensures widths { OnSome result (HasWidths command.now) }
+{
+    match command {
+        GpdCommand::Plain { id, rest } => add_one(out, *id, rest),
+        GpdCommand::Move { id, rate, rest } => add_move(out, *id, *rate, rest),
+        GpdCommand::Step {
+            id,
+            size,
+            time,
+            rest,
+        } => add_step(out, *id, *size, *time, rest),
+        GpdCommand::Vector { id, value, rest } => add_two(out, *id, *value, rest),
+        GpdCommand::Report { cluster, records } => add_report(out, *cluster, records),
+        GpdCommand::Commissioning(c) => {
+            add_octet(out, COMMISSIONING)?;
+            add_commissioning(out, c)
+        }
+        GpdCommand::Reply(r) => {
+            add_octet(out, REPLY)?;
+            add_reply(out, r)
+        }
+        GpdCommand::ChannelRequest { value, rest } => add_two(out, CHANNEL_REQUEST, *value, rest),
+        GpdCommand::ChannelConfig { value, rest } => add_two(out, CHANNEL_CONFIG, *value, rest),
+        GpdCommand::Other { id, rest } => add_one(out, *id, rest),
+    }
+}
+
+/// Adds one octet and the rest.
+fn add_one(out: &mut Octets, id: u8, rest: &Octets) -> Option<()>
+    ensures { Adds (id ∷ rest.now) out.old out.new result }
+{
+    add_octet(out, id)?;
+    add(out, rest.as_slice())
+}
+
+/// Adds two octets and the rest.
+fn add_two(out: &mut Octets, id: u8, value: u8, rest: &Octets) -> Option<()>
+    ensures { Adds (id ∷ value ∷ rest.now) out.old out.new result }
+{
+    add(out, &[id, value])?;
+    add(out, rest.as_slice())
+}
