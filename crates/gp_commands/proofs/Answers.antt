@@ -1,5 +1,5 @@
 -- A reason, or a value.
-use Rattle.std.proofs.Common.{◌≡◌, Option, Some, None, Result, Ok, Err, refl}
+use Rattle.std.proofs.Common.{◌≡◌, ℕ, zero, suc, Option, Some, None, Result, Ok, Err, refl}
 use Rattle.gp_commands.specs.Fields.{answer}
 
 pub answer_ok : {X E : Type 0} (reason : Option E) (value found : X) → Ok found ≡ answer reason value → (reason ≡ None) × (found ≡ value)
@@ -9,3 +9,7 @@ answer_ok (Some reason) value found e = absurd cc
 pub answer_err : {X E : Type 0} (reason : Option E) (value : X) (found : E) → Err found ≡ answer reason value → reason ≡ Some found
 answer_err None value found e = absurd cc
 answer_err (Some reason) value found e = cc
+
+abbrev pub pred_of : ℕ → ℕ
+pred_of zero = zero
+pred_of (suc n) = n

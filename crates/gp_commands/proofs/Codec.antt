@@ -67,7 +67,7 @@ pub record IsCodec {X : Type 0} (spell : X → List ℕ) (size : List ℕ → �
 
 -- one octet
 pub octet_codec : IsCodec octet (λ _ _. 1) octet_at (λ _. Unit {0})
-octet_codec = record { 
+octet_codec = record {
   split = λ b p bytes h. (split_octet b p (omega arith), tt);
   again = λ b p x r at fit. (At-octet b p x r at, At-after b p (x ∷ []) r at);
 }
@@ -82,14 +82,14 @@ pub record IsFixed {X : Type 0} (n : ℕ) (spell : X → List ℕ) (read : List 
 pub fixed_codec : {X : Type 0} (n : ℕ) (spell : X → List ℕ) (read : List ℕ → X) (Fit : X → Type 0) → IsFixed n spell read Fit → IsCodec spell (λ _ _. n) (λ b p. read (octets_at n b p)) Fit
 fixed_codec {X} n spell read Fit f = record {
   split = λ b p bytes h.
-    let xs = octets_at n b p in
-    let len = length-octets_at n b p h in
-    let fits : IsBytes xs = IsBytes-take n (drop p b) (IsBytes-drop p b bytes) in
-    (split_octets n b p ∙ ap (λ (l : List ℕ). l ++ drop (p + n) b) (sym (f.back xs fits len)), f.fit xs fits len);
+      let xs = octets_at n b p in
+      let len = length-octets_at n b p h in
+      let fits : IsBytes xs = IsBytes-take n (drop p b) (IsBytes-drop p b bytes) in
+      (split_octets n b p ∙ ap (λ (l : List ℕ). l ++ drop (p + n) b) (sym (f.back xs fits len)), f.fit xs fits len);
   again = λ b p x r at fit.
-    let len = f.len x fit in
-    let taken : take n (drop p b) ≡ spell x = subst (λ (k : ℕ). take k (drop p b) ≡ spell x) len (At-taken b p (spell x) r at) in
-    (ap read taken ∙ f.again x fit, subst (λ (k : ℕ). At b (p + k) r) len (At-after b p (spell x) r at));
+      let len = f.len x fit in
+      let taken : take n (drop p b) ≡ spell x = subst (λ (k : ℕ). take k (drop p b) ≡ spell x) len (At-taken b p (spell x) r at) in
+      (ap read taken ∙ f.again x fit, subst (λ (k : ℕ). At b (p + k) r) len (At-after b p (spell x) r at));
 }
 
 pub number16_codec : IsCodec (to_le_bytes w16) (λ _ _. 2) number16_at (λ n. n < 2 ^ 16)
@@ -128,34 +128,36 @@ key_codec = fixed_codec 16 key_octets (λ xs. record { 0 = xs }) (λ key. length
 pub counted_codec : IsCodec counted (λ b p. 1 + octet_at b p) (λ b p. octets_at (octet_at b p) b (p + 1)) (λ _. Unit {0})
 counted_codec = record {
   split = λ b p bytes h.
-    let count = octet_at b p in
-    let len = length-octets_at count b (p + 1) (omega arith) in
-    let first : drop p b ≡ count ∷ drop (p + 1) b = split_octet b p (omega arith) in
-    let second = split_octets count b (p + 1) in
-    let place : (p + 1) + count ≡ p + (1 + count) = omega arith in
-    (first ∙ ap (λ (l : List ℕ). count ∷ l) (second ∙ ap (λ (k : ℕ). octets_at count b (p + 1) ++ drop k b) place)
-       ∙ ap (λ (k : ℕ). k ∷ (octets_at count b (p + 1) ++ drop (p + (1 + count)) b)) (sym len), tt);
+      let count = octet_at b p in
+      let len = length-octets_at count b (p + 1) (omega arith) in
+      let first : drop p b ≡ count ∷ drop (p + 1) b = split_octet b p (omega arith) in
+      let second = split_octets count b (p + 1) in
+      let place : (p + 1) + count ≡ p + (1 + count) = omega arith in (
+        first ∙ ap (λ (l : List ℕ). count ∷ l) (second ∙ ap (λ (k : ℕ). octets_at count b (p + 1) ++ drop k b) place)
+            ∙ ap (λ (k : ℕ). k ∷ (octets_at count b (p + 1) ++ drop (p + (1 + count)) b)) (sym len),
+        tt,
+      );
   again = λ b p xs r at fit.
-    let count = At-octet b p (length xs) (xs ++ r) at in
-    let next : At b (p + 1) (xs ++ r) = At-after b p (length xs ∷ []) (xs ++ r) at in
-    let taken = At-taken b (p + 1) xs r next in
-    let after : At b ((p + 1) + length xs) r = At-after b (p + 1) xs r next in
-    let place : (p + 1) + length xs ≡ p + (1 + octet_at b p) = omega (arith, count) in
-    (ap (λ (k : ℕ). octets_at k b (p + 1)) count ∙ taken, subst (λ (k : ℕ). At b k r) place after);
+      let count = At-octet b p (length xs) (xs ++ r) at in
+      let next : At b (p + 1) (xs ++ r) = At-after b p (length xs ∷ []) (xs ++ r) at in
+      let taken = At-taken b (p + 1) xs r next in
+      let after : At b ((p + 1) + length xs) r = At-after b (p + 1) xs r next in
+      let place : (p + 1) + length xs ≡ p + (1 + octet_at b p) = omega (arith, count) in
+      (ap (λ (k : ℕ). octets_at k b (p + 1)) count ∙ taken, subst (λ (k : ℕ). At b k r) place after);
 }
 
 -- a list whose first octet gives its length
 pub led_codec : (size : ℕ → ℕ) → IsCodec (λ (xs : List ℕ). xs) (λ b p. 1 + size (octet_at b p)) (λ b p. octets_at (1 + size (octet_at b p)) b p) (λ xs. length xs ≡ 1 + size (octet_at xs 0))
 led_codec size = record {
   split = λ b p bytes h.
-    let n = 1 + size (octet_at b p) in
-    let len = length-octets_at n b p h in
-    let first : octet_at b p ≡ octet_at (octets_at n b p) 0 = At-first b p (octets_at n b p) (drop (p + n) b) (record { rest = split_octets n b p; within = omega arith }) (omega (arith, len)) in
-    (split_octets n b p, len ∙ ap (λ (k : ℕ). 1 + size k) first);
+      let n = 1 + size (octet_at b p) in
+      let len = length-octets_at n b p h in
+      let first : octet_at b p ≡ octet_at (octets_at n b p) 0 = At-first b p (octets_at n b p) (drop (p + n) b) (record { rest = split_octets n b p; within = omega arith }) (omega (arith, len)) in
+      (split_octets n b p, len ∙ ap (λ (k : ℕ). 1 + size k) first);
   again = λ b p xs r at fit.
-    let first : octet_at b p ≡ octet_at xs 0 = At-first b p xs r at (omega (arith, fit)) in
-    let n : length xs ≡ 1 + size (octet_at b p) = fit ∙ ap (λ (k : ℕ). 1 + size k) (sym first) in
-    (subst (λ (k : ℕ). octets_at k b p ≡ xs) n (At-taken b p xs r at), subst (λ (k : ℕ). At b (p + k) r) n (At-after b p xs r at));
+      let first : octet_at b p ≡ octet_at xs 0 = At-first b p xs r at (omega (arith, fit)) in
+      let n : length xs ≡ 1 + size (octet_at b p) = fit ∙ ap (λ (k : ℕ). 1 + size k) (sym first) in
+      (subst (λ (k : ℕ). octets_at k b p ≡ xs) n (At-taken b p xs r at), subst (λ (k : ℕ). At b (p + k) r) n (At-after b p xs r at));
 }
 
 -- ---- a field that is there or not

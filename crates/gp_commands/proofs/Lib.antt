@@ -2,4 +2,5 @@ pub mod Answers
 pub mod Codec
 pub mod Entries
 pub mod Places
+pub mod Sizes
 pub mod Spelling

@@ -9,14 +9,15 @@ use Rattle.gp_commands.specs.declared.value.TheConstants.{VALUES}
 abbrev pub text_length : ℕ → ℕ
 text_length length = if length == 255 then 0 else length
 
--- the size by a line of the table, for a type and the value's first octet
+-- the size of a value of a type, where a line begins with the type `lowest` and the value with the octet `first`
+abbrev pub size_as : ValueSize → ℕ → ℕ → ℕ → ℕ
+size_as Rising lowest kind first = kind - lowest + 1
+size_as (Fixed octets) lowest kind first = octets
+size_as Counted lowest kind first = 1 + text_length first
+
+-- the size by a line of the table
 abbrev pub size_by : ValueLine → ℕ → ℕ → ℕ
-size_by line kind first = by_size line.size
-  where
-    by_size : ValueSize → ℕ
-    by_size Rising = kind - line.first + 1
-    by_size (Fixed octets) = octets
-    by_size Counted = 1 + text_length first
+size_by line kind first = size_as line.size line.first kind first
 
 -- the type stands in the line
 abbrev pub has_kind : ValueLine → ℕ → Bool
