@@ -1,5 +1,5 @@
 -- The Commissioning command (Zigbee PRO Green Power, A.4.2.1.1).
-use Rattle.std.specs.Prelude.{◌≡◌, ℕ, ◌+◌, ◌*◌, ◌/◌, ◌%◌, ◌<◌, ◌≤◌, ◌^◌, ◌==◌, nat_lt, Bool, true, if◌then◌else◌, ◌&&◌, ◌||◌, List, [], ◌∷◌, ◌++◌, length, drop, Option, Some, None, is_some, unwrap_or, IfSome, IsTrue}
+use Rattle.std.specs.Prelude.{◌≡◌, ℕ, ◌+◌, ◌*◌, ◌/◌, ◌%◌, ◌<◌, ◌≤◌, ◌^◌, ◌==◌, nat_lt, Bool, true, if◌then◌else◌, ◌&&◌, ◌||◌, List, [], ◌∷◌, ◌++◌, length, drop, Option, Some, None, is_some, is_none, unwrap_or, IfSome, IsTrue}
 use Rattle.std.specs.Int.{w16, w32, to_le_bytes}
 use Rattle.gp_base.specs.Table.{first_of}
 use Rattle.gp_commands.specs.declared.command.Commissioning.{Commissioning}
@@ -9,7 +9,7 @@ use Rattle.gp_commands.specs.declared.command.CommandReason.TheVariants.{Short, 
 use Rattle.gp_commands.specs.Fields.{bit, agree, octet, key_octets, counted, spelled, joined, octet_at, octets_at, number16_at, size_if, value_if}
 use Rattle.gp_commands.specs.Application.{clusters_agree, application_end, application_at}
 use Rattle.gp_commands.specs.declared.keying.Wanted.{Wanted}
-use Rattle.gp_commands.specs.Keying.{keying_octets, keying_size, keying_at}
+use Rattle.gp_commands.specs.Keying.{reserved, keying_octets, keying_size, keying_at}
 
 -- ---- flags
 
@@ -64,11 +64,13 @@ commissioning_in_parts c =
     header_octets c
     ++ (keying_octets (record { key = c.key; mic = c.key_mic; counter = c.counter }) ++ (application_octets c ++ c.rest))
 
--- The extended options, the key, its MIC and the counter are there exactly where their flags say so.
+-- The extended options, the key, its MIC and the counter are there exactly where their flags say so, and neither
+-- the level nor the kind of key is reserved.
 abbrev pub security_agrees : Commissioning → Bool
 security_agrees c =
     let wanted = wanted_by (unwrap_or c.extended 0) in
     agree (is_some c.extended) (bit 7 c.options)
+    && is_none (reserved (level (unwrap_or c.extended 0)) (key_kind (unwrap_or c.extended 0)))
     && agree (is_some c.key) wanted.key
     && agree (is_some c.key_mic) wanted.mic
     && agree (is_some c.counter) wanted.counter

@@ -1,5 +1,5 @@
 -- The Commissioning Reply command (Zigbee PRO Green Power, A.4.2, Commissioning Reply command).
-use Rattle.std.specs.Prelude.{◌≡◌, ℕ, ◌+◌, ◌/◌, ◌%◌, ◌^◌, ◌<◌, ◌==◌, IfSome, nat_lt, Bool, ◌&&◌, ◌||◌, List, [], ◌∷◌, ◌++◌, length, drop, Option, is_some}
+use Rattle.std.specs.Prelude.{◌≡◌, ℕ, ◌+◌, ◌/◌, ◌%◌, ◌^◌, ◌<◌, ◌==◌, IfSome, nat_lt, Bool, ◌&&◌, ◌||◌, List, [], ◌∷◌, ◌++◌, length, drop, Option, is_some, is_none}
 use Rattle.std.specs.Int.{w16, w32, to_le_bytes}
 use Rattle.gp_base.specs.Table.{first_of}
 use Rattle.gp_commands.specs.declared.command.Reply.{Reply}
@@ -7,7 +7,7 @@ use Rattle.gp_commands.specs.declared.command.CommandReason.{CommandReason}
 use Rattle.gp_commands.specs.declared.command.CommandReason.TheVariants.{Short, ReservedLevel, ReservedKeyKind}
 use Rattle.gp_commands.specs.Fields.{bit, agree, octet, key_octets, spelled, joined, octet_at, number16_at, size_if, value_if}
 use Rattle.gp_commands.specs.declared.keying.Wanted.{Wanted}
-use Rattle.gp_commands.specs.Keying.{keying_octets, keying_size, keying_at}
+use Rattle.gp_commands.specs.Keying.{reserved, keying_octets, keying_size, keying_at}
 
 -- ---- flags
 
@@ -44,11 +44,12 @@ reply_header_octets r = joined (octet r.options ∷ spelled (to_le_bytes w16) r.
 abbrev pub reply_in_parts : Reply → List ℕ
 reply_in_parts r = reply_header_octets r ++ (keying_octets (record { key = r.key; mic = r.key_mic; counter = r.counter }) ++ r.rest)
 
--- each field is there exactly where its flag says so
+-- each field is there exactly where its flag says so, and neither the level nor the kind of key is reserved
 abbrev pub reply_fields_agree : Reply → Bool
 reply_fields_agree r =
     let wanted = reply_wanted r.options in
     agree (is_some r.pan) (bit 0 r.options)
+    && is_none (reserved (reply_level r.options) (reply_key_kind r.options))
     && agree (is_some r.key) wanted.key
     && agree (is_some r.key_mic) wanted.mic
     && agree (is_some r.counter) wanted.counter

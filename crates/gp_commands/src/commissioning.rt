@@ -97,12 +97,15 @@ pub(crate) fn fields_agree(c: &Commissioning) -> bool
     security_agrees(c) && application_agrees(c)
 }
 
-/// Whether the extended options, the key, its MIC and the counter are there where their flags say so.
+/// Whether the extended options, the key, its MIC and the counter are there where their flags say so, and neither
+/// the level nor the kind of key is reserved.
 fn security_agrees(c: &Commissioning) -> bool
     ensures { result ≡ Rattle.gp_commands.specs.Commissioning.security_agrees c.now }
 {
-    let wanted = wanted_by(c.extended.unwrap_or(0));
+    let extended = c.extended.unwrap_or(0);
+    let wanted = wanted_by(extended);
     c.extended.is_some() == is_set(c.options, 128)
+        && reserved_reason(extended % 4, extended / 4 % 8).is_none()
         && c.key.is_some() == wanted.key
         && c.key_mic.is_some() == wanted.mic
         && c.counter.is_some() == wanted.counter

@@ -51,12 +51,14 @@ pub(crate) fn read_reply(octets: &[u8], reader: &mut Reader) -> Result<Reply, Co
     })
 }
 
-/// Whether each field is there exactly where its flag says so.
+/// Whether each field is there exactly where its flag says so, and neither the level nor the kind of key is
+/// reserved.
 pub(crate) fn fields_agree(reply: &Reply) -> bool
     ensures { result ≡ reply_fields_agree reply.now }
 {
     let wanted = wanted_by(reply.options);
     reply.pan.is_some() == is_set(reply.options, 1)
+        && reserved_reason(reply.options / 8 % 4, reply.options / 32).is_none()
         && reply.key.is_some() == wanted.key
         && reply.key_mic.is_some() == wanted.mic
         && reply.counter.is_some() == wanted.counter
