@@ -11,7 +11,7 @@ use Rattle.gp_commands.specs.declared.command.CommandReason.TheVariants.{Short, 
 use Rattle.gp_commands.specs.Fields.{answer, or_else, octet_at, octets_at}
 use Rattle.gp_commands.specs.Values.{value_size}
 use Rattle.gp_commands.specs.Report.{Entry, entry, IsEntry, AreRecords, value_size_at, entry_reason, entries_reason, next_place}
-use Rattle.gp_commands.proofs.Answers.{answer_ok, answer_err, pred_of}
+use Rattle.gp_commands.proofs.Answers.{answer_ok, answer_err, first_none, pred_of}
 use Rattle.gp_commands.proofs.Codec.{join, At, At-after, At-octet, At-first, split_octet, split_octets, length-octets_at}
 use Rattle.gp_commands.proofs.Sizes.{value_size_positive}
 
@@ -69,10 +69,6 @@ GoesOn-end b start place g le =
 or_else_none : {X : Type 0} (first second : Option X) → or_else first second ≡ None → (first ≡ None) × (second ≡ None)
 or_else_none None second e = (refl, e)
 or_else_none (Some x) second e = absurd cc
-
-first_none : {X : Type 0} (test : Bool) (x : X) (rest : Option X) → cond test (Some x) rest ≡ None → (test ≡ false) × (rest ≡ None)
-first_none true x rest e = absurd cc
-first_none false x rest e = (refl, e)
 
 is_some_of : (o : Option ℕ) → is_none o ≡ false → (n : ℕ) × (o ≡ Some n)
 is_some_of None e = absurd cc

@@ -1,8 +1,11 @@
 pub mod Answers
 pub mod Applied
 pub mod Codec
+pub mod Commissioned
 pub mod Entries
+pub mod Identifiers
 pub mod Keyed
 pub mod Places
+pub mod Replied
 pub mod Sizes
 pub mod Spelling
