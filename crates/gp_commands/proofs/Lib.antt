@@ -1,10 +1,12 @@
 pub mod Answers
 pub mod Applied
 pub mod Codec
+pub mod Commands
 pub mod Commissioned
 pub mod Entries
 pub mod Identifiers
 pub mod Keyed
+pub mod Levels
 pub mod Places
 pub mod Replied
 pub mod Sizes
