@@ -11,12 +11,12 @@ use Rattle.gp_commands.proofs.Codec.{IsBytes, At, IsField, IsCodec, optional_cod
 unfoldable pub information_octets : Application → List ℕ
 information_octets a =
     joined
-      ( spelled octet a.information
-      ∷ spelled (to_le_bytes w16) a.manufacturer
-      ∷ spelled (to_le_bytes w16) a.model
-      ∷ spelled counted a.commands
-      ∷ spelled (λ clusters. clusters) a.clusters
-      ∷ [] )
+    (spelled octet a.information
+    ∷ spelled (to_le_bytes w16) a.manufacturer
+    ∷ spelled (to_le_bytes w16) a.model
+    ∷ spelled counted a.commands
+    ∷ spelled (λ clusters. clusters) a.clusters
+    ∷ [])
 
 -- its flags, 0 where it is absent
 abbrev pub flags_of : Application → ℕ
@@ -45,14 +45,16 @@ application_split options b p bytes h =
     let commands = (optional_codec _ _ _ _ counted_codec (bit 2 flags)).split b (commands_place options b p) bytes (omega arith) in
     let clusters = (optional_codec _ _ _ _ (led_codec clusters_size) (bit 3 flags)).split b (clusters_place options b p) bytes h in
     let all = join b p _ _ _ information.0 (join b _ _ _ _ manufacturer.0 (join b _ _ _ _ model.0 (join b _ _ _ _ commands.0 clusters.0))) in
-    let same : flags ≡ flags_of (application_at options b p) = sym (unwrap-value_if (bit 2 options) (octet_at b p) 0) in
-    (all ∙ simp append_assoc, record {
-      information = information.1;
-      manufacturer = subst (λ (k : ℕ). IsField (bit 0 k) (λ n. n < 2 ^ 16) (value_if (bit 0 flags) (number16_at b (manufacturer_place options p)))) same manufacturer.1;
-      model = subst (λ (k : ℕ). IsField (bit 1 k) (λ n. n < 2 ^ 16) (application_at options b p).model) same model.1;
-      commands = subst (λ (k : ℕ). IsField (bit 2 k) (λ _. Unit {0}) (application_at options b p).commands) same commands.1;
-      clusters = subst (λ (k : ℕ). IsField (bit 3 k) (λ clusters. length clusters ≡ 1 + clusters_size (octet_at clusters 0)) (application_at options b p).clusters) same clusters.1;
-    })
+    let same : flags ≡ flags_of (application_at options b p) = sym (unwrap-value_if (bit 2 options) (octet_at b p) 0) in (
+      all ∙ simp append_assoc,
+      record {
+        information = information.1;
+        manufacturer = subst (λ (k : ℕ). IsField (bit 0 k) (λ n. n < 2 ^ 16) (value_if (bit 0 flags) (number16_at b (manufacturer_place options p)))) same manufacturer.1;
+        model = subst (λ (k : ℕ). IsField (bit 1 k) (λ n. n < 2 ^ 16) (application_at options b p).model) same model.1;
+        commands = subst (λ (k : ℕ). IsField (bit 2 k) (λ _. Unit {0}) (application_at options b p).commands) same commands.1;
+        clusters = subst (λ (k : ℕ). IsField (bit 3 k) (λ clusters. length clusters ≡ 1 + clusters_size (octet_at clusters 0)) (application_at options b p).clusters) same clusters.1;
+      },
+    )
 
 pub application_again : (options : ℕ) (b : List ℕ) (p : ℕ) (a : Application) (r : List ℕ) → At b p (information_octets a ++ r) → HasApplication options a
     → (application_at options b p ≡ a) × At b (application_end options b p) r
@@ -60,17 +62,17 @@ unfolding information_octets application_end application_at
 application_again options b p a r at has =
     let flags = flags_at options b p in
     let start : At b p (spelled octet a.information ++ (spelled (to_le_bytes w16) a.manufacturer ++ (spelled (to_le_bytes w16) a.model
-        ++ (spelled counted a.commands ++ (spelled (λ clusters. clusters) a.clusters ++ r))))) =
-        record { rest = at.rest ∙ simp append_assoc; within = at.within } in
+    ++ (spelled counted a.commands ++ (spelled (λ clusters. clusters) a.clusters ++ r))))) =
+    record { rest = at.rest ∙ simp append_assoc; within = at.within } in
     let information = (optional_codec _ _ _ _ octet_codec (bit 2 options)).again b p a.information _ start has.information in
     let same : flags ≡ flags_of a = sym (unwrap-value_if (bit 2 options) (octet_at b p) 0) ∙ ap (λ (o : Option ℕ). unwrap_or o 0) information.0 in
     let back = sym same in
     let manufacturer = (optional_codec _ _ _ _ number16_codec (bit 0 flags)).again b (manufacturer_place options p) a.manufacturer _ information.1
-        (subst (λ (k : ℕ). IsField (bit 0 k) (λ n. n < 2 ^ 16) a.manufacturer) back has.manufacturer) in
+    (subst (λ (k : ℕ). IsField (bit 0 k) (λ n. n < 2 ^ 16) a.manufacturer) back has.manufacturer) in
     let model = (optional_codec _ _ _ _ number16_codec (bit 1 flags)).again b (model_place options b p) a.model _ manufacturer.1
-        (subst (λ (k : ℕ). IsField (bit 1 k) (λ n. n < 2 ^ 16) a.model) back has.model) in
+    (subst (λ (k : ℕ). IsField (bit 1 k) (λ n. n < 2 ^ 16) a.model) back has.model) in
     let commands = (optional_codec _ _ _ _ counted_codec (bit 2 flags)).again b (commands_place options b p) a.commands _ model.1
-        (subst (λ (k : ℕ). IsField (bit 2 k) (λ _. Unit {0}) a.commands) back has.commands) in
+    (subst (λ (k : ℕ). IsField (bit 2 k) (λ _. Unit {0}) a.commands) back has.commands) in
     let clusters = (optional_codec _ _ _ _ (led_codec clusters_size) (bit 3 flags)).again b (clusters_place options b p) a.clusters r commands.1
-        (subst (λ (k : ℕ). IsField (bit 3 k) (λ clusters. length clusters ≡ 1 + clusters_size (octet_at clusters 0)) a.clusters) back has.clusters) in
+    (subst (λ (k : ℕ). IsField (bit 3 k) (λ clusters. length clusters ≡ 1 + clusters_size (octet_at clusters 0)) a.clusters) back has.clusters) in
     (rw (information.0, manufacturer.0, model.0, commands.0, clusters.0) refl, clusters.1)

@@ -16,7 +16,7 @@ use Rattle.gp_commands.specs.Report.{entries_reason, AreRecords}
 use Rattle.gp_commands.specs.Commissioning.{commissioning, commissioning_at}
 use Rattle.gp_commands.specs.Reply.{reply, reply_at}
 use Rattle.gp_commands.specs.Command.{spelling, HasForm, HasWidths, Command, IsSound, ends_before, payload_reason, payload_at, first_reason, reading}
-use Rattle.gp_commands.proofs.Answers.{first_none}
+use Rattle.gp_commands.proofs.Answers.{answer_ok, answer_err, first_none}
 use Rattle.gp_commands.proofs.Codec.{IsBytes, At, IsCodec, number16_codec, split_octet}
 use Rattle.gp_commands.proofs.Commissioned.{fields_from, fields_tested, commissioning_found, commissioning_again}
 use Rattle.gp_commands.proofs.Entries.{records_from, no_reason}
@@ -134,3 +134,21 @@ pub again : (c : GpdCommand) (b : List ℕ) → Command c b → reading b ≡ Ok
 again c b command =
     let r = reads c command.form command.widths in
     subst (λ (l : List ℕ). reading l ≡ Ok c) (sym command.parts) (reading_of r.0 (spelling c) c r.1)
+
+-- ---- the clauses of the calls
+
+pub is_found : (b : List ℕ) (r : Result GpdCommand CommandReason) → IsBytes b → length b ≤ 117 → r ≡ reading b → IfOk r (λ command. Command command b)
+unfolding reading
+is_found b (Ok command) bytes room e =
+    let parts = answer_ok (first_reason b) (payload_at (form_of (octet_at b 0)) b) command e in
+    subst (λ (c : GpdCommand). Command c b) (sym parts.1) (found b bytes room parts.0)
+is_found b (Err reason) bytes room e = tt
+
+pub is_refused : (b : List ℕ) (r : Result GpdCommand CommandReason) → r ≡ reading b → IfErr r (λ reason. first_reason b ≡ Some reason)
+unfolding reading
+is_refused b (Ok command) e = tt
+is_refused b (Err reason) e = answer_err (first_reason b) (payload_at (form_of (octet_at b 0)) b) reason e
+
+pub refuses : (b : List ℕ) (reason : CommandReason) → first_reason b ≡ Some reason → reading b ≡ Err reason
+unfolding reading
+refuses b reason e = rw e refl

@@ -94,14 +94,16 @@ fields_tested c has =
     let clusters = agree_same _ _ has.application.clusters.there_is in
     let security : security_agrees c ≡ true = and_from _ _ (and_from _ _ (and_from _ _ (and_from _ _ extended free) key) mic) counter in
     let application : application_agrees c ≡ true =
-        and_from _ _ (and_from _ _ (and_from _ _ (and_from _ _ (and_from _ _ information manufacturer) model) commands) clusters) (clusters_tested c.clusters has.application.clusters.fit) in
-    (and_from _ _ security application, record {
-      key = has.keying.key.fit;
-      mic = has.keying.mic.fit;
-      counter = has.keying.counter.fit;
-      manufacturer = has.application.manufacturer.fit;
-      model = has.application.model.fit;
-    })
+    and_from _ _ (and_from _ _ (and_from _ _ (and_from _ _ (and_from _ _ information manufacturer) model) commands) clusters) (clusters_tested c.clusters has.application.clusters.fit) in (
+      and_from _ _ security application,
+      record {
+        key = has.keying.key.fit;
+        mic = has.keying.mic.fit;
+        counter = has.keying.counter.fit;
+        manufacturer = has.application.manufacturer.fit;
+        model = has.application.model.fit;
+      },
+    )
 
 -- ---- in its parts
 
@@ -136,29 +138,31 @@ commissioning_found b bytes h =
     let application = application_split (octet_at b 2) b (application_place b) bytes all_fits in
     let same : extended_at b ≡ extended_of (commissioning_at b) = sym (unwrap-value_if (bit 7 (octet_at b 2)) (octet_at b 3) 0) in
     let all = join b 1 2 (octet (octet_at b 1)) _ device.0 (join b 2 3 (octet (octet_at b 2)) _ options.0 (join b 3 (keying_place b) _ _ extended.0 (join b (keying_place b) (application_place b) _ _ keying.0 application.0))) in
-    let free = not_reserved (level (extended_at b)) (key_kind (extended_at b)) two.0 three.0 in
-    (all ∙ sym (in_parts (commissioning_at b) (drop (rest_place b) b) refl), record {
-      extended = extended.1;
-      free = subst (λ (x : ℕ). reserved (level x) (key_kind x) ≡ None) same free;
-      keying = subst (λ (x : ℕ). HasKeying (wanted_by x) (keying_of (commissioning_at b))) same keying.1;
-      application = application.1;
-    })
+    let free = not_reserved (level (extended_at b)) (key_kind (extended_at b)) two.0 three.0 in (
+      all ∙ sym (in_parts (commissioning_at b) (drop (rest_place b) b) refl),
+      record {
+        extended = extended.1;
+        free = subst (λ (x : ℕ). reserved (level x) (key_kind x) ≡ None) same free;
+        keying = subst (λ (x : ℕ). HasKeying (wanted_by x) (keying_of (commissioning_at b))) same keying.1;
+        application = application.1;
+      },
+    )
 
 pub commissioning_again : (b : List ℕ) (c : Commissioning) → At b 1 (commissioning c) → HasFields c → (commissioning_reason b ≡ None) × (commissioning_at b ≡ c)
 commissioning_again b c at has =
     let start : At b 1 (octet c.device ++ (octet c.options ++ (spelled octet c.extended ++ (keying_octets (keying_of c) ++ (information_octets (application_of c) ++ c.rest))))) =
-        record { rest = at.rest ∙ in_parts c c.rest refl; within = at.within } in
+    record { rest = at.rest ∙ in_parts c c.rest refl; within = at.within } in
     let device = octet_codec.again b 1 c.device _ start tt in
     let options = octet_codec.again b 2 c.options _ device.1 tt in
     let flag : bit 7 c.options ≡ bit 7 (octet_at b 2) = ap (bit 7) (sym options.0) in
     let extended = (optional_codec _ _ _ _ octet_codec (bit 7 (octet_at b 2))).again b 3 c.extended _ options.1
-        (subst (λ (t : Bool). IsField t (λ _. Unit {0}) c.extended) flag has.extended) in
+    (subst (λ (t : Bool). IsField t (λ _. Unit {0}) c.extended) flag has.extended) in
     let same : extended_of c ≡ extended_at b =
-        ap (λ (o : Option ℕ). unwrap_or o 0) (sym extended.0) ∙ unwrap-value_if (bit 7 (octet_at b 2)) (octet_at b 3) 0 in
+    ap (λ (o : Option ℕ). unwrap_or o 0) (sym extended.0) ∙ unwrap-value_if (bit 7 (octet_at b 2)) (octet_at b 3) 0 in
     let keying = (keying_codec (wanted_by (extended_at b))).again b (keying_place b) (keying_of c) _ extended.1
-        (subst (λ (x : ℕ). HasKeying (wanted_by x) (keying_of c)) same has.keying) in
+    (subst (λ (x : ℕ). HasKeying (wanted_by x) (keying_of c)) same has.keying) in
     let application = application_again (octet_at b 2) b (application_place b) (application_of c) c.rest keying.1
-        (subst (λ (x : ℕ). HasApplication x (application_of c)) (sym options.0) has.application) in
+    (subst (λ (x : ℕ). HasApplication x (application_of c)) (sym options.0) has.application) in
     let tests = free_tests (level (extended_at b)) (key_kind (extended_at b)) (subst (λ (x : ℕ). reserved (level x) (key_kind x) ≡ None) same has.free) in
     let one : ltb (length b) (keying_place b) ≡ false = le-ltb _ _ extended.1.within in
     let four : ltb (length b) (rest_place b) ≡ false = le-ltb _ _ application.1.within in

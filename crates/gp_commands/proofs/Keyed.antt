@@ -36,7 +36,7 @@ keying_again wanted b p keying r at has =
     let s2 = size_if wanted.mic 4 in
     let s3 = size_if wanted.counter 4 in
     let start : At b p (spelled key_octets keying.key ++ (spelled (λ mic. mic) keying.mic ++ (spelled (to_le_bytes w32) keying.counter ++ r))) =
-        record { rest = at.rest ∙ simp append_assoc; within = at.within } in
+    record { rest = at.rest ∙ simp append_assoc; within = at.within } in
     let key = (optional_codec _ _ _ _ key_codec wanted.key).again b p keying.key _ start has.key in
     let mic = (optional_codec _ _ _ _ (octets_codec 4) wanted.mic).again b (p + s1) keying.mic _ key.1 has.mic in
     let counter = (optional_codec _ _ _ _ number32_codec wanted.counter).again b (p + s1 + s2) keying.counter r mic.1 has.counter in

@@ -15,9 +15,10 @@ use Rattle.gp_commands.proofs.Codec.{IsBytes, At, IsCodec, optional_codec, octet
 pub move_found : (there : Bool) (b : List ℕ) → IsBytes b → 1 ≤ length b → leb 2 (length b) ≡ there
     → (drop 1 b ≡ spelled octet (value_if there (octet_at b 1)) ++ drop (1 + size_if there 1) b) × HasMoveRest (value_if there (octet_at b 1)) (drop (1 + size_if there 1) b)
 move_found true b bytes within e = (((optional_codec _ _ _ _ octet_codec true).split b 1 bytes (leb-true 2 (length b) e)).0, tt)
-move_found false b bytes within e =
-    (((optional_codec _ _ _ _ octet_codec false).split b 1 bytes within).0,
-     nil_from_length (drop 1 b) (omega (arith, length-drop 1 b, leb-false 2 (length b) e)))
+move_found false b bytes within e = (
+  ((optional_codec _ _ _ _ octet_codec false).split b 1 bytes within).0,
+  nil_from_length (drop 1 b) (omega (arith, length-drop 1 b, leb-false 2 (length b) e)),
+)
 
 pub move_again : (id : ℕ) (rate : Option ℕ) (rest : List ℕ) → HasMoveRest rate rest → move_at (id ∷ (spelled octet rate ++ rest)) ≡ Move id rate rest
 move_again id None rest e = subst (λ (r : List ℕ). move_at (id ∷ r) ≡ Move id None r) (sym e) refl
@@ -29,7 +30,7 @@ move_again id (Some rate) rest e =
 
 pub step_found : (there : Bool) (b : List ℕ) → IsBytes b → 2 ≤ length b → leb 4 (length b) ≡ there
     → (drop 2 b ≡ spelled (to_le_bytes w16) (value_if there (number16_at b 2)) ++ drop (2 + size_if there 2) b)
-      × HasStepRest (value_if there (number16_at b 2)) (drop (2 + size_if there 2) b) × IfSome (value_if there (number16_at b 2)) (λ n. n < 2 ^ 16)
+    × HasStepRest (value_if there (number16_at b 2)) (drop (2 + size_if there 2) b) × IfSome (value_if there (number16_at b 2)) (λ n. n < 2 ^ 16)
 step_found true b bytes within e =
     let field = (optional_codec _ _ _ _ number16_codec true).split b 2 bytes (leb-true 4 (length b) e) in
     (field.0, tt, field.1.fit)

@@ -44,13 +44,15 @@ reply_fields_tested r has =
     let free = ap is_none has.free in
     let key = agree_same _ _ has.keying.key.there_is in
     let mic = agree_same _ _ has.keying.mic.there_is in
-    let counter = agree_same _ _ has.keying.counter.there_is in
-    (and_from _ _ (and_from _ _ (and_from _ _ (and_from _ _ pan free) key) mic) counter, record {
-      pan = has.pan.fit;
-      key = has.keying.key.fit;
-      mic = has.keying.mic.fit;
-      counter = has.keying.counter.fit;
-    })
+    let counter = agree_same _ _ has.keying.counter.there_is in (
+      and_from _ _ (and_from _ _ (and_from _ _ (and_from _ _ pan free) key) mic) counter,
+      record {
+        pan = has.pan.fit;
+        key = has.keying.key.fit;
+        mic = has.keying.mic.fit;
+        counter = has.keying.counter.fit;
+      },
+    )
 
 pub reply_in_order : (r : Reply) (rest : List ℕ) → r.rest ≡ rest → reply r ≡ octet r.options ++ (spelled (to_le_bytes w16) r.pan ++ (keying_octets (reply_keying_of r) ++ rest))
 unfolding reply keying_octets
@@ -69,24 +71,26 @@ reply_found b bytes h =
     let options = octet_codec.split b 1 bytes first_fits in
     let pan = (optional_codec _ _ _ _ number16_codec (bit 0 opts)).split b 2 bytes pan_fits in
     let keying = (keying_codec (reply_wanted opts)).split b (reply_keying_place b) bytes all_fits in
-    let all = join b 1 2 (octet opts) _ options.0 (join b 2 (reply_keying_place b) _ _ pan.0 keying.0) in
-    (all ∙ sym (reply_in_order (reply_at b) (drop (reply_rest_place b) b) refl), record {
-      pan = pan.1;
-      free = not_reserved (reply_level opts) (reply_key_kind opts) two.0 three.0;
-      keying = keying.1;
-    })
+    let all = join b 1 2 (octet opts) _ options.0 (join b 2 (reply_keying_place b) _ _ pan.0 keying.0) in (
+      all ∙ sym (reply_in_order (reply_at b) (drop (reply_rest_place b) b) refl),
+      record {
+        pan = pan.1;
+        free = not_reserved (reply_level opts) (reply_key_kind opts) two.0 three.0;
+        keying = keying.1;
+      },
+    )
 
 pub reply_again : (b : List ℕ) (r : Reply) → At b 1 (reply r) → HasReplyFields r → (reply_reason b ≡ None) × (reply_at b ≡ r)
 reply_again b r at has =
     let opts = octet_at b 1 in
     let start : At b 1 (octet r.options ++ (spelled (to_le_bytes w16) r.pan ++ (keying_octets (reply_keying_of r) ++ r.rest))) =
-        record { rest = at.rest ∙ reply_in_order r r.rest refl; within = at.within } in
+    record { rest = at.rest ∙ reply_in_order r r.rest refl; within = at.within } in
     let options = octet_codec.again b 1 r.options _ start tt in
     let back = sym options.0 in
     let pan = (optional_codec _ _ _ _ number16_codec (bit 0 opts)).again b 2 r.pan _ options.1
-        (subst (λ (x : ℕ). IsField (bit 0 x) (λ n. n < 2 ^ 16) r.pan) back has.pan) in
+    (subst (λ (x : ℕ). IsField (bit 0 x) (λ n. n < 2 ^ 16) r.pan) back has.pan) in
     let keying = (keying_codec (reply_wanted opts)).again b (reply_keying_place b) (reply_keying_of r) r.rest pan.1
-        (subst (λ (x : ℕ). HasKeying (reply_wanted x) (reply_keying_of r)) back has.keying) in
+    (subst (λ (x : ℕ). HasKeying (reply_wanted x) (reply_keying_of r)) back has.keying) in
     let tests = free_tests (reply_level opts) (reply_key_kind opts) (subst (λ (x : ℕ). reserved (reply_level x) (reply_key_kind x) ≡ None) back has.free) in
     let one : ltb (length b) 2 ≡ false = le-ltb _ _ options.1.within in
     let four : ltb (length b) (reply_rest_place b) ≡ false = le-ltb _ _ keying.1.within in

@@ -15,6 +15,8 @@ mod value;
 mod writing;
 
 pub use command::{CommandReason, Commissioning, GpdCommand, Reply};
+pub use reading::read;
+pub use writing::{sound, write};
 
 #[cfg(test)]
 mod tests;

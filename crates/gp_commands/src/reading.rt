@@ -1,8 +1,10 @@
 //! Commands are read and written.
 
-ghost use Rattle.std.specs.Prelude.{◌≡◌, ◌≤◌, length, drop};
+ghost use Rattle.std.specs.Prelude.{◌≡◌, ◌≤◌, length, drop, IfOk, IfErr, Some, Ok, Err};
+ghost use Rattle.gp_commands.specs.declared.command.GpdCommand.{GpdCommand};
+ghost use Rattle.gp_commands.specs.declared.command.CommandReason.{CommandReason};
 ghost use Rattle.gp_commands.specs.Fields.{answer, octet_at};
-ghost use Rattle.gp_commands.specs.Command.{ends_before, reading};
+ghost use Rattle.gp_commands.specs.Command.{Command, ends_before, first_reason, reading};
 
 use crate::command::{CommandReason, GpdCommand, short};
 use crate::commissioning::read_commissioning;
@@ -12,6 +14,26 @@ use crate::level::{read_move, read_step};
 use crate::reply::read_reply;
 use crate::report::read_report;
 use gp_base::{Octets, Reader};
+
+/// Reads a command identifier with its payload.
+///
+/// A refusal names the first fault from the left. The place of `Short` is the length of the input, that of
+/// `ValueKind` the place of the type octet.
+pub fn read(octets: &[u8]) -> Result<GpdCommand, CommandReason>
+    requires { length octets.now ≤ 117 }
+    // What is read is spelled so,
+    ensures found { IfOk result (λ command. Command command octets.now) }
+    // and what is spelled so is read.
+    ensures only { (command : GpdCommand) → Command command octets.now → result ≡ Ok command }
+    // What is refused has that fault first,
+    ensures refused { IfErr result (λ reason. first_reason octets.now ≡ Some reason) }
+    // and what has a fault first is refused with it.
+    ensures reason { (reason : CommandReason) → first_reason octets.now ≡ Some reason → result ≡ Err reason }
+    // All of it in one, for callers that compute.
+    ensures exact { result ≡ reading octets.now }
+{
+    read_all(octets)
+}
 
 /// Reads one octet and the rest, after an identifier.
 fn read_single(octets: &[u8], reader: &mut Reader) -> Result<(u8, Octets), CommandReason>

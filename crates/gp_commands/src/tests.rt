@@ -1,0 +1,296 @@
+//! What no clause says: values from the formats, and that the calls succeed.
+
+use super::*;
+use gp_base::{Key, Octets};
+use std::test::Fail;
+
+/// Identifiers whose payloads are alike: a whole payload, and the lengths of the fronts of it that read; the
+/// others end too early.
+struct Case {
+    first: u8,
+    last: u8,
+    payload: &'static [u8],
+    readable: &'static [usize],
+}
+
+const COMMISSIONING: [u8; 33] = [
+    0x02, 0x85, 0xF2, 0xC0, 0xC1, 0xC2, 0xC3, 0xC4, 0xC5, 0xC6, 0xC7, 0xC8, 0xC9, 0xCA, 0xCB, 0xCC,
+    0xCD, 0xCE, 0xCF, 0x11, 0x12, 0x13, 0x14, 0x05, 0x00, 0x00, 0x00, 0x04, 0x04, 0x20, 0x21, 0x22,
+    0x23,
+];
+
+const REPLY: [u8; 27] = [
+    0x57, 0x34, 0x12, 0xC0, 0xC1, 0xC2, 0xC3, 0xC4, 0xC5, 0xC6, 0xC7, 0xC8, 0xC9, 0xCA, 0xCB, 0xCC,
+    0xCD, 0xCE, 0xCF, 0x11, 0x12, 0x13, 0x14, 0x05, 0x00, 0x00, 0x00,
+];
+
+const CASES: [Case; 26] = [
+    Case {
+        first: 0x00,
+        last: 0x00,
+        payload: &[],
+        readable: &[0],
+    },
+    Case {
+        first: 0x01,
+        last: 0x0F,
+        payload: &[0xAA],
+        readable: &[0, 1],
+    },
+    Case {
+        first: 0x10,
+        last: 0x1F,
+        payload: &[],
+        readable: &[0],
+    },
+    Case {
+        first: 0x20,
+        last: 0x23,
+        payload: &[],
+        readable: &[0],
+    },
+    Case {
+        first: 0x24,
+        last: 0x2F,
+        payload: &[0xAA],
+        readable: &[0, 1],
+    },
+    Case {
+        first: 0x30,
+        last: 0x31,
+        payload: &[0x05],
+        readable: &[0, 1],
+    },
+    Case {
+        first: 0x32,
+        last: 0x33,
+        payload: &[0x10, 0x0A, 0x00],
+        readable: &[1, 2, 3],
+    },
+    Case {
+        first: 0x34,
+        last: 0x34,
+        payload: &[],
+        readable: &[0],
+    },
+    Case {
+        first: 0x35,
+        last: 0x36,
+        payload: &[0x05],
+        readable: &[0, 1],
+    },
+    Case {
+        first: 0x37,
+        last: 0x38,
+        payload: &[0x10, 0x0A, 0x00],
+        readable: &[1, 2, 3],
+    },
+    Case {
+        first: 0x39,
+        last: 0x4F,
+        payload: &[0xAA],
+        readable: &[0, 1],
+    },
+    Case {
+        first: 0x50,
+        last: 0x51,
+        payload: &[],
+        readable: &[0],
+    },
+    Case {
+        first: 0x52,
+        last: 0x5F,
+        payload: &[0xAA],
+        readable: &[0, 1],
+    },
+    Case {
+        first: 0x60,
+        last: 0x68,
+        payload: &[],
+        readable: &[0],
+    },
+    Case {
+        first: 0x69,
+        last: 0x6A,
+        payload: &[0x81],
+        readable: &[1],
+    },
+    Case {
+        first: 0x6B,
+        last: 0x9F,
+        payload: &[0xAA],
+        readable: &[0, 1],
+    },
+    Case {
+        first: 0xA0,
+        last: 0xA0,
+        payload: &[0x02, 0x04, 0x00, 0x00, 0x29, 0x0A, 0x00],
+        readable: &[2, 7],
+    },
+    Case {
+        first: 0xA1,
+        last: 0xDF,
+        payload: &[0xAA],
+        readable: &[0, 1],
+    },
+    Case {
+        first: 0xE0,
+        last: 0xE0,
+        payload: &COMMISSIONING,
+        readable: &[33],
+    },
+    Case {
+        first: 0xE1,
+        last: 0xE2,
+        payload: &[],
+        readable: &[0],
+    },
+    Case {
+        first: 0xE3,
+        last: 0xE3,
+        payload: &[0x54],
+        readable: &[1],
+    },
+    Case {
+        first: 0xE4,
+        last: 0xEF,
+        payload: &[0xAA],
+        readable: &[0, 1],
+    },
+    Case {
+        first: 0xF0,
+        last: 0xF0,
+        payload: &REPLY,
+        readable: &[27],
+    },
+    Case {
+        first: 0xF1,
+        last: 0xF2,
+        payload: &[0xAA],
+        readable: &[0, 1],
+    },
+    Case {
+        first: 0xF3,
+        last: 0xF3,
+        payload: &[0x1B],
+        readable: &[1],
+    },
+    Case {
+        first: 0xF4,
+        last: 0xFF,
+        payload: &[0xAA],
+        readable: &[0, 1],
+    },
+];
+
+/// The identifier and the first octets of a payload.
+fn input(id: u8, payload: &[u8], count: usize) -> Octets {
+    let mut octets = Octets::new();
+    let _ = octets.push(id);
+    for octet in payload.iter().take(count) {
+        let _ = octets.push(*octet);
+    }
+    octets
+}
+
+#[test]
+fn every_identifier(rt: HostRuntime) -> Result<(), Fail> {
+    let mut next = 0;
+    for case in &CASES {
+        assert_eq!(rt; case.first as u16, next);
+        next = case.last as u16 + 1;
+        for id in case.first..=case.last {
+            for count in 0..=case.payload.len() {
+                let octets = input(id, case.payload, count);
+                let octets = octets.as_slice();
+                assert!(rt; octets.len() <= 117);
+                match read(octets) {
+                    Ok(command) => {
+                        assert!(rt; case.readable.contains(&count), "{id:x} with {count}");
+                        assert!(rt; sound(&command));
+                        assert_eq!(rt; write(&command).as_slice(), octets);
+                    }
+                    Err(reason) => {
+                        assert!(rt; !case.readable.contains(&count), "{id:x} with {count}");
+                        let place = octets.len() as u8;
+                        assert_eq!(rt; reason, CommandReason::Short { place });
+                    }
+                }
+            }
+        }
+    }
+    assert_eq!(rt; next, 0x100);
+    Ok(())
+}
+
+#[test]
+fn refusals(rt: HostRuntime) {
+    let table: [(&[u8], CommandReason); 14] = [
+        (&[], CommandReason::Empty),
+        (&[0x32], CommandReason::Short { place: 1 }),
+        (&[0xE3], CommandReason::Short { place: 1 }),
+        (&[0xA0, 0x02], CommandReason::Short { place: 2 }),
+        (
+            &[0xA0, 0x02, 0x04, 0x00, 0x00],
+            CommandReason::Short { place: 5 },
+        ),
+        (
+            &[0xA0, 0x02, 0x04, 0x00, 0x00, 0x00],
+            CommandReason::ValueKind { place: 5 },
+        ),
+        (
+            &[0xA0, 0x02, 0x04, 0x00, 0x00, 0x42],
+            CommandReason::Short { place: 6 },
+        ),
+        (
+            &[0xA0, 0x02, 0x04, 0x00, 0x00, 0x42, 0x01],
+            CommandReason::Short { place: 7 },
+        ),
+        (
+            &[0xA0, 0x02, 0x04, 0x00, 0x00, 0x20, 0x01, 0x01, 0x00, 0x48],
+            CommandReason::ValueKind { place: 9 },
+        ),
+        (&[0xE0, 0x02, 0x80], CommandReason::Short { place: 3 }),
+        (&[0xE0, 0x02, 0x80, 0xB1], CommandReason::ReservedLevel),
+        (&[0xE0, 0x02, 0x80, 0xB6], CommandReason::ReservedKeyKind),
+        (&[0xF0, 0x0A], CommandReason::ReservedLevel),
+        (&[0xF0, 0xC0], CommandReason::ReservedKeyKind),
+    ];
+    for (octets, reason) in table {
+        assert!(rt; octets.len() <= 117);
+        assert_eq!(rt; read(octets), Err(reason));
+    }
+}
+
+/// A Commissioning with a wrapped key, a counter and a list of commands.
+#[test]
+fn a_commissioning(rt: HostRuntime) -> Result<(), Fail> {
+    let octets = input(0xE0, &COMMISSIONING, 33);
+    let octets = octets.as_slice();
+    assert!(rt; octets.len() == 34);
+    let expected = GpdCommand::Commissioning(Commissioning {
+        device: 0x02,
+        options: 0x85,
+        extended: Some(0xF2),
+        key: Some(Key([
+            0xC0, 0xC1, 0xC2, 0xC3, 0xC4, 0xC5, 0xC6, 0xC7, 0xC8, 0xC9, 0xCA, 0xCB, 0xCC, 0xCD,
+            0xCE, 0xCF,
+        ])),
+        key_mic: Some([0x11, 0x12, 0x13, 0x14]),
+        counter: Some(5),
+        application: Some(4),
+        manufacturer: None,
+        model: None,
+        commands: Octets::of(&[0x20, 0x21, 0x22, 0x23]),
+        clusters: None,
+        rest: Octets::new(),
+    });
+    assert!(rt; sound(&expected));
+    assert_eq!(rt; write(&expected).as_slice(), octets);
+    assert_eq!(rt; read(octets), Ok(expected));
+    assert_eq!(rt;
+        read(&octets[..33]),
+        Err(CommandReason::Short { place: 33 })
+    );
+    Ok(())
+}

@@ -1,8 +1,9 @@
 //! Which commands have a spelling, and that spelling.
 
-ghost use Rattle.std.specs.Prelude.{◌≡◌, ◌∷◌, ◌<◌, ◌↔◌, length, IsTrue, OnSome, MatchOption};
+ghost use Rattle.std.specs.Prelude.{◌≡◌, ◌∷◌, ◌<◌, ◌≤◌, ◌↔◌, length, IsTrue, OnSome, MatchOption};
+ghost use Rattle.std.specs.Bool.{OnTrue};
 ghost use Rattle.gp_commands.specs.Fields.{Adds};
-ghost use Rattle.gp_commands.specs.Command.{spelling, HasForm, HasWidths};
+ghost use Rattle.gp_commands.specs.Command.{Command, IsSound, spelling, HasForm, HasWidths};
 
 use crate::command::GpdCommand;
 use crate::commissioning::{self, add_commissioning};
@@ -12,6 +13,35 @@ use crate::level::{add_move, add_step, has_move_rest, has_step_rest};
 use crate::reply::{self, add_reply};
 use crate::report::{add_report, are_records};
 use gp_base::Octets;
+
+/// Whether a command has a spelling: exactly where some octets, at most 117 of them, read as it.
+pub fn sound(command: &GpdCommand) -> bool
+    ensures { IsTrue result ↔ IsSound command.now }
+{
+    has_form(command) && has_room(command)
+}
+
+/// The octets that read as a command. There is one such list.
+pub fn write(command: &GpdCommand) -> Octets
+    requires { IsSound command.now }
+    ensures spelled { Command command.now result }
+{
+    match spell(command) {
+        Some(octets) => octets,
+        None => unreachable!(),
+    }
+}
+
+/// Whether a command has at most 117 octets.
+fn has_room(command: &GpdCommand) -> bool
+    ensures room { IsTrue result ↔ (length (spelling command.now) ≤ 117) }
+    ensures widths { OnTrue result (HasWidths command.now) }
+{
+    match spell(command) {
+        Some(octets) => octets.as_slice().len() <= 117,
+        None => false,
+    }
+}
 
 /// Whether the identifier is one of the variant's, and each field is there where it is to be.
 pub(crate) fn has_form(command: &GpdCommand) -> bool
