@@ -2,7 +2,7 @@
 
 use super::*;
 use gp_base::{Key, Octets};
-use std::test::Fail;
+use std::process::Abort;
 
 /// Identifiers whose payloads are alike: a whole payload, and the lengths of the fronts of it that read; the
 /// others end too early.
@@ -193,8 +193,14 @@ fn input(id: u8, payload: &[u8], count: usize) -> Octets {
     octets
 }
 
+/// What octets read as, of which there are at most 117.
+fn read_checked(rt: &impl Abort, octets: &[u8]) -> Result<GpdCommand, CommandReason> {
+    assert!(rt; octets.len() <= 117);
+    read(octets)
+}
+
 #[test]
-fn every_identifier(rt: HostRuntime) -> Result<(), Fail> {
+fn every_identifier(rt: HostRuntime) {
     let mut next = 0;
     for case in &CASES {
         assert_eq!(rt; case.first as u16, next);
@@ -202,17 +208,15 @@ fn every_identifier(rt: HostRuntime) -> Result<(), Fail> {
         for id in case.first..=case.last {
             for count in 0..=case.payload.len() {
                 let octets = input(id, case.payload, count);
-                let octets = octets.as_slice();
-                assert!(rt; octets.len() <= 117);
-                match read(octets) {
+                match read_checked(&rt, octets.as_slice()) {
                     Ok(command) => {
                         assert!(rt; case.readable.contains(&count), "{id:x} with {count}");
                         assert!(rt; sound(&command));
-                        assert_eq!(rt; write(&command).as_slice(), octets);
+                        assert_eq!(rt; write(&command), octets);
                     }
                     Err(reason) => {
                         assert!(rt; !case.readable.contains(&count), "{id:x} with {count}");
-                        let place = octets.len() as u8;
+                        let place = octets.as_slice().len() as u8;
                         assert_eq!(rt; reason, CommandReason::Short { place });
                     }
                 }
@@ -220,7 +224,6 @@ fn every_identifier(rt: HostRuntime) -> Result<(), Fail> {
         }
     }
     assert_eq!(rt; next, 0x100);
-    Ok(())
 }
 
 #[test]
@@ -257,18 +260,13 @@ fn refusals(rt: HostRuntime) {
         (&[0xF0, 0xC0], CommandReason::ReservedKeyKind),
     ];
     for (octets, reason) in table {
-        assert!(rt; octets.len() <= 117);
-        assert_eq!(rt; read(octets), Err(reason));
+        assert_eq!(rt; read_checked(&rt, octets), Err(reason));
     }
 }
 
 /// A Commissioning with a wrapped key, a counter and a list of commands.
-#[test]
-fn a_commissioning(rt: HostRuntime) -> Result<(), Fail> {
-    let octets = input(0xE0, &COMMISSIONING, 33);
-    let octets = octets.as_slice();
-    assert!(rt; octets.len() == 34);
-    let expected = GpdCommand::Commissioning(Commissioning {
+fn wrapped() -> GpdCommand {
+    GpdCommand::Commissioning(Commissioning {
         device: 0x02,
         options: 0x85,
         extended: Some(0xF2),
@@ -284,13 +282,40 @@ fn a_commissioning(rt: HostRuntime) -> Result<(), Fail> {
         commands: Octets::of(&[0x20, 0x21, 0x22, 0x23]),
         clusters: None,
         rest: Octets::new(),
-    });
-    assert!(rt; sound(&expected));
-    assert_eq!(rt; write(&expected).as_slice(), octets);
-    assert_eq!(rt; read(octets), Ok(expected));
+    })
+}
+
+#[test]
+fn a_commissioning(rt: HostRuntime) {
+    let whole = input(0xE0, &COMMISSIONING, 33);
+    assert_eq!(rt; read_checked(&rt, whole.as_slice()), Ok(wrapped()));
+    let cut = input(0xE0, &COMMISSIONING, 32);
+    let place = 33;
     assert_eq!(rt;
-        read(&octets[..33]),
-        Err(CommandReason::Short { place: 33 })
+        read_checked(&rt, cut.as_slice()),
+        Err(CommandReason::Short { place })
     );
-    Ok(())
+    let command = wrapped();
+    assert!(rt; sound(&command));
+    assert_eq!(rt; write(&command), whole);
+}
+
+/// A key kind that is reserved, a key that is wanted and absent: neither has a spelling.
+#[test]
+fn unsound(rt: HostRuntime) {
+    let options = 0x40;
+    let reply = |options: u8, key: Option<Key>| {
+        GpdCommand::Reply(Reply {
+            options,
+            pan: None,
+            key,
+            key_mic: None,
+            counter: None,
+            rest: Octets::new(),
+        })
+    };
+    assert!(rt; sound(&reply(options, None)));
+    assert!(rt; !sound(&reply(0xA0, None)));
+    assert!(rt; !sound(&reply(0x42, None)));
+    assert!(rt; sound(&reply(0x42, Some(Key([0; 16])))));
 }
