@@ -10,14 +10,15 @@ use Rattle.gp_commands.specs.declared.command.GpdCommand.{GpdCommand}
 use Rattle.gp_commands.specs.declared.command.GpdCommand.TheVariants.{Plain, Move, Step, Vector, Report, Commissioning, Reply, ChannelRequest, ChannelConfig, Other}
 use Rattle.gp_commands.specs.declared.command.CommandReason.{CommandReason}
 use Rattle.gp_commands.specs.declared.command.CommandReason.TheVariants.{Empty, Short}
-use Rattle.gp_commands.specs.Fields.{octet_at, number16_at, answer}
+use Rattle.gp_base.specs.Field.{IsOctets, two_at}
+use Rattle.gp_commands.specs.Fields.{octet_at, answer}
 use Rattle.gp_commands.specs.Forms.{form_of}
 use Rattle.gp_commands.specs.Report.{entries_reason, AreRecords}
 use Rattle.gp_commands.specs.Commissioning.{commissioning, commissioning_at}
 use Rattle.gp_commands.specs.Reply.{reply, reply_at}
 use Rattle.gp_commands.specs.Command.{spelling, HasForm, HasWidths, Command, IsSound, ends_before, payload_reason, payload_at, first_reason, reading}
 use Rattle.gp_commands.proofs.Answers.{answer_ok, answer_err, first_none}
-use Rattle.gp_commands.proofs.Codec.{IsBytes, At, IsCodec, number16_codec, split_octet}
+use Rattle.gp_commands.proofs.Codec.{At, IsCodec, number16_codec, split_octet}
 use Rattle.gp_commands.proofs.Commissioned.{fields_from, fields_tested, commissioning_found, commissioning_again}
 use Rattle.gp_commands.proofs.Entries.{records_from, no_reason}
 use Rattle.gp_commands.proofs.Identifiers.{is_report, is_commissioning, is_reply, is_request, is_config, report_form, commissioning_form, reply_form, request_form, config_form}
@@ -38,7 +39,7 @@ two_octets b h = split_octet b 0 (omega arith) ∙ ap (λ (l : List ℕ). octet_
 two_within : (b : List ℕ) → ends_before 2 b ≡ None → 2 ≤ length b
 two_within b h = ltb-false _ _ (first_none (ltb (length b) 2) (Short (length b)) None h).0
 
-found_as : (f : Form) (b : List ℕ) → IsBytes b → 0 < length b → form_of (octet_at b 0) ≡ f → payload_reason f b ≡ None → Spells (payload_at f b) b
+found_as : (f : Form) (b : List ℕ) → IsOctets b → 0 < length b → form_of (octet_at b 0) ≡ f → payload_reason f b ≡ None → Spells (payload_at f b) b
 found_as forms.Plain b bytes lt e h = record { parts = split_octet b 0 lt; form = e; widths = tt }
 found_as forms.Move b bytes lt e h =
     let found = move_found (leb 2 (length b)) b bytes lt refl in
@@ -54,7 +55,7 @@ found_as forms.Report b bytes lt e h =
     let cluster = number16_codec.split b 1 bytes within in
     let id = is_report (octet_at b 0) (bytes 0) e in
     record {
-      parts = split_octet b 0 lt ∙ ap (λ (l : List ℕ). octet_at b 0 ∷ l) cluster.0 ∙ ap (λ (x : ℕ). x ∷ (to_le_bytes w16 (number16_at b 1) ++ drop 3 b)) id;
+      parts = split_octet b 0 lt ∙ ap (λ (l : List ℕ). octet_at b 0 ∷ l) cluster.0 ∙ ap (λ (x : ℕ). x ∷ (to_le_bytes w16 (two_at b 1) ++ drop 3 b)) id;
       form = records_from (length b) b 3 (omega arith) within tests.1;
       widths = cluster.1;
     }
@@ -82,7 +83,7 @@ found_as forms.ChannelConfig b bytes lt e h =
     record { parts = two_octets b (two_within b h) ∙ ap (λ (x : ℕ). x ∷ octet_at b 1 ∷ drop 2 b) (is_config (octet_at b 0) (bytes 0) e); form = tt; widths = tt }
 found_as forms.Other b bytes lt e h = record { parts = split_octet b 0 lt; form = e; widths = tt }
 
-pub found : (b : List ℕ) → IsBytes b → length b ≤ 117 → first_reason b ≡ None → Command (payload_at (form_of (octet_at b 0)) b) b
+pub found : (b : List ℕ) → IsOctets b → length b ≤ 117 → first_reason b ≡ None → Command (payload_at (form_of (octet_at b 0)) b) b
 found b bytes room h =
     let tests = first_none (eqb (length b) 0) Empty _ h in
     let lt : 0 < length b = omega (arith, eqb-false (length b) 0 tests.0) in
@@ -137,7 +138,7 @@ again c b command =
 
 -- ---- the clauses of the calls
 
-pub is_found : (b : List ℕ) (r : Result GpdCommand CommandReason) → IsBytes b → length b ≤ 117 → r ≡ reading b → IfOk r (λ command. Command command b)
+pub is_found : (b : List ℕ) (r : Result GpdCommand CommandReason) → IsOctets b → length b ≤ 117 → r ≡ reading b → IfOk r (λ command. Command command b)
 unfolding reading
 is_found b (Ok command) bytes room e =
     let parts = answer_ok (first_reason b) (payload_at (form_of (octet_at b 0)) b) command e in

@@ -2,18 +2,20 @@
 use Rattle.std.proofs.Common.{◌≡◌, ℕ, ◌+◌, ◌^◌, ◌<◌, ◌≤◌, Bool, true, false, cond, eqb, ltb, List, [], ◌∷◌, ◌++◌, length, drop, Option, Some, None, refl, sym, ap, subst, ◌∙◌, append_assoc, arith}
 use Rattle.std.specs.Prelude.{◌&&◌, ◌||◌, is_some, is_none, IfSome, IsTrue, unwrap_or}
 use Rattle.std.proofs.lemmas.Bool.{and_parts, and_from, ltb-false, le-ltb, eqb-true, eq-eqb, or_parts}
+use Rattle.gp_commands.specs.Inside.{header_octets, application_octets, keying_octets}
 use Rattle.gp_commands.specs.declared.application.Application.{Application}
 use Rattle.gp_commands.specs.declared.command.Commissioning.{Commissioning}
 use Rattle.gp_commands.specs.declared.command.CommandReason.{CommandReason}
 use Rattle.gp_commands.specs.declared.command.CommandReason.TheVariants.{Short, ReservedLevel, ReservedKeyKind}
 use Rattle.gp_commands.specs.declared.keying.Keying.{Keying}
-use Rattle.gp_commands.specs.Fields.{bit, agree, octet, spelled, octet_at, size_if, value_if}
-use Rattle.gp_commands.specs.Keying.{reserved, keying_octets, keying_size, keying_at}
+use Rattle.gp_base.specs.Field.{IsOctets, has_bit, optional}
+use Rattle.gp_commands.specs.Fields.{agree, octet, octet_at, size_if, value_if}
+use Rattle.gp_commands.specs.Keying.{reserved, keying_size, keying_at}
 use Rattle.gp_commands.specs.Application.{clusters_size, clusters_agree, application_end, application_at}
-use Rattle.gp_commands.specs.Commissioning.{level, key_kind, wanted_by, commissioning, header_octets, application_octets, security_agrees, application_agrees, fields_agree, HasCommissioningWidths, extended_at, keying_place, application_place, rest_place, commissioning_reason, commissioning_at}
+use Rattle.gp_commands.specs.Commissioning.{level, key_kind, wanted_by, commissioning, security_agrees, application_agrees, fields_agree, HasCommissioningWidths, extended_at, keying_place, application_place, rest_place, commissioning_reason, commissioning_at}
 use Rattle.gp_commands.proofs.Answers.{first_none, agree_is, agree_same}
 use Rattle.gp_commands.proofs.Applied.{HasApplication, information_octets, unwrap-value_if, application_split, application_again}
-use Rattle.gp_commands.proofs.Codec.{IsBytes, At, IsField, IsCodec, optional_codec, octet_codec, join}
+use Rattle.gp_commands.proofs.Codec.{At, IsField, IsCodec, optional_codec, octet_codec, join}
 use Rattle.gp_commands.proofs.Keyed.{HasKeying, keying_codec}
 use Rattle.gp_commands.proofs.Places.{application_end_above}
 use Rattle.gp_commands.proofs.Spelling.{commissioning_parts}
@@ -30,7 +32,7 @@ abbrev pub extended_of : Commissioning → ℕ
 extended_of c = unwrap_or c.extended 0
 
 pub record HasFields (c : Commissioning) : Type 0 where
-  pub extended : IsField (bit 7 c.options) (λ _. Unit {0}) c.extended
+  pub extended : IsField (has_bit c.options 128) (λ _. Unit {0}) c.extended
   pub free : reserved (level (extended_of c)) (key_kind (extended_of c)) ≡ None
   pub keying : HasKeying (wanted_by (extended_of c)) (keying_of c)
   pub application : HasApplication c.options (application_of c)
@@ -107,7 +109,7 @@ fields_tested c has =
 
 -- ---- in its parts
 
-pub in_parts : (c : Commissioning) (r : List ℕ) → c.rest ≡ r → commissioning c ≡ octet c.device ++ (octet c.options ++ (spelled octet c.extended ++ (keying_octets (keying_of c) ++ (information_octets (application_of c) ++ r))))
+pub in_parts : (c : Commissioning) (r : List ℕ) → c.rest ≡ r → commissioning c ≡ octet c.device ++ (octet c.options ++ (optional octet c.extended ++ (keying_octets (keying_of c) ++ (information_octets (application_of c) ++ r))))
 unfolding commissioning keying_octets information_octets
 in_parts c r e = simp append_assoc (ap (λ (l : List ℕ). commissioning (record c { rest = l })) e)
 
@@ -122,7 +124,7 @@ free_tests l k h =
 
 -- ---- both ways
 
-pub commissioning_found : (b : List ℕ) → IsBytes b → commissioning_reason b ≡ None → (drop 1 b ≡ commissioning (commissioning_at b)) × HasFields (commissioning_at b)
+pub commissioning_found : (b : List ℕ) → IsOctets b → commissioning_reason b ≡ None → (drop 1 b ≡ commissioning (commissioning_at b)) × HasFields (commissioning_at b)
 commissioning_found b bytes h =
     let one = first_none (ltb (length b) (keying_place b)) (Short (length b)) _ h in
     let two = first_none (eqb (level (extended_at b)) 1) ReservedLevel _ one.1 in
@@ -133,10 +135,10 @@ commissioning_found b bytes h =
     let keying_fits : application_place b ≤ length b = omega (arith, application_end_above (octet_at b 2) b (application_place b), all_fits) in
     let device = octet_codec.split b 1 bytes (omega arith) in
     let options = octet_codec.split b 2 bytes (omega arith) in
-    let extended = (optional_codec _ _ _ _ octet_codec (bit 7 (octet_at b 2))).split b 3 bytes header_fits in
+    let extended = (optional_codec _ _ _ _ octet_codec (has_bit (octet_at b 2) 128)).split b 3 bytes header_fits in
     let keying = (keying_codec (wanted_by (extended_at b))).split b (keying_place b) bytes keying_fits in
     let application = application_split (octet_at b 2) b (application_place b) bytes all_fits in
-    let same : extended_at b ≡ extended_of (commissioning_at b) = sym (unwrap-value_if (bit 7 (octet_at b 2)) (octet_at b 3) 0) in
+    let same : extended_at b ≡ extended_of (commissioning_at b) = sym (unwrap-value_if (has_bit (octet_at b 2) 128) (octet_at b 3) 0) in
     let all = join b 1 2 (octet (octet_at b 1)) _ device.0 (join b 2 3 (octet (octet_at b 2)) _ options.0 (join b 3 (keying_place b) _ _ extended.0 (join b (keying_place b) (application_place b) _ _ keying.0 application.0))) in
     let free = not_reserved (level (extended_at b)) (key_kind (extended_at b)) two.0 three.0 in (
       all ∙ sym (in_parts (commissioning_at b) (drop (rest_place b) b) refl),
@@ -150,15 +152,15 @@ commissioning_found b bytes h =
 
 pub commissioning_again : (b : List ℕ) (c : Commissioning) → At b 1 (commissioning c) → HasFields c → (commissioning_reason b ≡ None) × (commissioning_at b ≡ c)
 commissioning_again b c at has =
-    let start : At b 1 (octet c.device ++ (octet c.options ++ (spelled octet c.extended ++ (keying_octets (keying_of c) ++ (information_octets (application_of c) ++ c.rest))))) =
+    let start : At b 1 (octet c.device ++ (octet c.options ++ (optional octet c.extended ++ (keying_octets (keying_of c) ++ (information_octets (application_of c) ++ c.rest))))) =
     record { rest = at.rest ∙ in_parts c c.rest refl; within = at.within } in
     let device = octet_codec.again b 1 c.device _ start tt in
     let options = octet_codec.again b 2 c.options _ device.1 tt in
-    let flag : bit 7 c.options ≡ bit 7 (octet_at b 2) = ap (bit 7) (sym options.0) in
-    let extended = (optional_codec _ _ _ _ octet_codec (bit 7 (octet_at b 2))).again b 3 c.extended _ options.1
+    let flag : has_bit c.options 128 ≡ has_bit (octet_at b 2) 128 = ap (λ (x : ℕ). has_bit x 128) (sym options.0) in
+    let extended = (optional_codec _ _ _ _ octet_codec (has_bit (octet_at b 2) 128)).again b 3 c.extended _ options.1
     (subst (λ (t : Bool). IsField t (λ _. Unit {0}) c.extended) flag has.extended) in
     let same : extended_of c ≡ extended_at b =
-    ap (λ (o : Option ℕ). unwrap_or o 0) (sym extended.0) ∙ unwrap-value_if (bit 7 (octet_at b 2)) (octet_at b 3) 0 in
+    ap (λ (o : Option ℕ). unwrap_or o 0) (sym extended.0) ∙ unwrap-value_if (has_bit (octet_at b 2) 128) (octet_at b 3) 0 in
     let keying = (keying_codec (wanted_by (extended_at b))).again b (keying_place b) (keying_of c) _ extended.1
     (subst (λ (x : ℕ). HasKeying (wanted_by x) (keying_of c)) same has.keying) in
     let application = application_again (octet_at b 2) b (application_place b) (application_of c) c.rest keying.1

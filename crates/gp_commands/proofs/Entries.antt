@@ -8,7 +8,8 @@ use Rattle.std.proofs.lemmas.List.{nil_from_length}
 use Rattle.std.proofs.lemmas.List.Concat.{flat_map-cons}
 use Rattle.gp_commands.specs.declared.command.CommandReason.{CommandReason}
 use Rattle.gp_commands.specs.declared.command.CommandReason.TheVariants.{Short, ValueKind}
-use Rattle.gp_commands.specs.Fields.{answer, or_else, octet_at, octets_at}
+use Rattle.gp_base.specs.Field.{part}
+use Rattle.gp_commands.specs.Fields.{answer, or_else, octet_at}
 use Rattle.gp_commands.specs.Values.{value_size}
 use Rattle.gp_commands.specs.Report.{Entry, entry, IsEntry, AreRecords, value_size_at, entry_reason, entries_reason, next_place}
 use Rattle.gp_commands.proofs.Answers.{answer_ok, answer_err, first_none, pred_of}
@@ -106,22 +107,22 @@ entry_at b p h =
     let within_next = entry_within b p h in
     let value_len = length-octets_at size b (p + 3) (omega (arith, fits.3, within_next)) in
     let positive = value_size_positive _ _ size fits.1 in
-    let lead : octet_at b (p + 3) ≡ octet_at (octets_at size b (p + 3)) 0 =
-    At-first b (p + 3) (octets_at size b (p + 3)) (drop (p + 3 + size) b) (record { rest = split_octets size b (p + 3); within = fits.2 }) (omega (arith, value_len)) in
+    let lead : octet_at b (p + 3) ≡ octet_at (part b (p + 3) size) 0 =
+    At-first b (p + 3) (part b (p + 3) size) (drop (p + 3 + size) b) (record { rest = split_octets size b (p + 3); within = fits.2 }) (omega (arith, value_len)) in
     let third : (p + 2) + 1 ≡ p + 3 = omega arith in
-    let value_part : drop (p + 3) b ≡ octets_at size b (p + 3) ++ drop (next_place b p) b =
-    split_octets size b (p + 3) ∙ ap (λ (k : ℕ). octets_at size b (p + 3) ++ drop k b) (sym fits.3) in
+    let value_part : drop (p + 3) b ≡ part b (p + 3) size ++ drop (next_place b p) b =
+    split_octets size b (p + 3) ∙ ap (λ (k : ℕ). part b (p + 3) size ++ drop k b) (sym fits.3) in
     let kind_part : drop (p + 2) b ≡ octet_at b (p + 2) ∷ drop (p + 3) b =
     split_octet b (p + 2) (omega (arith, fits.2)) ∙ ap (λ (k : ℕ). octet_at b (p + 2) ∷ drop k b) third in
-    let tail : drop (p + 2) b ≡ octet_at b (p + 2) ∷ (octets_at size b (p + 3) ++ drop (next_place b p) b) =
+    let tail : drop (p + 2) b ≡ octet_at b (p + 2) ∷ (part b (p + 3) size ++ drop (next_place b p) b) =
     kind_part ∙ ap (λ (l : List ℕ). octet_at b (p + 2) ∷ l) value_part in
     record {
-      found = record { attribute = octets_at 2 b p; kind = octet_at b (p + 2); value = octets_at size b (p + 3) };
+      found = record { attribute = part b p 2; kind = octet_at b (p + 2); value = part b (p + 3) size };
       is_entry = record {
         attribute = length-octets_at 2 b p (omega (arith, fits.2));
         value = ap (λ (k : ℕ). value_size (octet_at b (p + 2)) k) (sym lead) ∙ fits.1 ∙ ap (λ (k : ℕ). Some k) (sym value_len);
       };
-      parts = join b p (p + 2) (octets_at 2 b p) _ (split_octets 2 b p) tail ∙ sym (append_assoc (octets_at 2 b p) (octet_at b (p + 2) ∷ octets_at size b (p + 3)) (drop (next_place b p) b));
+      parts = join b p (p + 2) (part b p 2) _ (split_octets 2 b p) tail ∙ sym (append_assoc (part b p 2) (octet_at b (p + 2) ∷ part b (p + 3) size) (drop (next_place b p) b));
     }
 
 records_cons : (b : List ℕ) (p : ℕ) → EntryAt b p → AreRecords (drop (next_place b p) b) → AreRecords (drop p b)

@@ -3,14 +3,16 @@ use Rattle.std.proofs.Common.{◌≡◌, ℕ, ◌+◌, ◌^◌, ◌<◌, ◌≤�
 use Rattle.std.specs.Prelude.{◌&&◌, ◌||◌, is_some, is_none}
 use Rattle.std.specs.Int.{w16, to_le_bytes}
 use Rattle.std.proofs.lemmas.Bool.{and_parts, and_from, ltb-false, le-ltb}
+use Rattle.gp_commands.specs.Inside.{keying_octets}
 use Rattle.gp_commands.specs.declared.command.Reply.{Reply}
 use Rattle.gp_commands.specs.declared.command.CommandReason.TheVariants.{Short, ReservedLevel, ReservedKeyKind}
 use Rattle.gp_commands.specs.declared.keying.Keying.{Keying}
-use Rattle.gp_commands.specs.Fields.{bit, octet, spelled, octet_at}
-use Rattle.gp_commands.specs.Keying.{reserved, keying_octets}
+use Rattle.gp_base.specs.Field.{IsOctets, has_bit, optional}
+use Rattle.gp_commands.specs.Fields.{octet, octet_at}
+use Rattle.gp_commands.specs.Keying.{reserved}
 use Rattle.gp_commands.specs.Reply.{reply_level, reply_key_kind, reply_wanted, reply, reply_fields_agree, HasReplyWidths, reply_keying_place, reply_rest_place, reply_reason, reply_at}
 use Rattle.gp_commands.proofs.Answers.{first_none, agree_is, agree_same}
-use Rattle.gp_commands.proofs.Codec.{IsBytes, At, IsField, IsCodec, optional_codec, octet_codec, number16_codec, join}
+use Rattle.gp_commands.proofs.Codec.{At, IsField, IsCodec, optional_codec, octet_codec, number16_codec, join}
 use Rattle.gp_commands.proofs.Commissioned.{none_of_test, not_reserved, free_tests}
 use Rattle.gp_commands.proofs.Keyed.{HasKeying, keying_codec}
 
@@ -18,7 +20,7 @@ abbrev pub reply_keying_of : Reply → Keying
 reply_keying_of r = record { key = r.key; mic = r.key_mic; counter = r.counter }
 
 pub record HasReplyFields (r : Reply) : Type 0 where
-  pub pan : IsField (bit 0 r.options) (λ n. n < 2 ^ 16) r.pan
+  pub pan : IsField (has_bit r.options 1) (λ n. n < 2 ^ 16) r.pan
   pub free : reserved (reply_level r.options) (reply_key_kind r.options) ≡ None
   pub keying : HasKeying (reply_wanted r.options) (reply_keying_of r)
 
@@ -54,11 +56,11 @@ reply_fields_tested r has =
       },
     )
 
-pub reply_in_order : (r : Reply) (rest : List ℕ) → r.rest ≡ rest → reply r ≡ octet r.options ++ (spelled (to_le_bytes w16) r.pan ++ (keying_octets (reply_keying_of r) ++ rest))
+pub reply_in_order : (r : Reply) (rest : List ℕ) → r.rest ≡ rest → reply r ≡ octet r.options ++ (optional (to_le_bytes w16) r.pan ++ (keying_octets (reply_keying_of r) ++ rest))
 unfolding reply keying_octets
 reply_in_order r rest e = simp append_assoc (ap (λ (l : List ℕ). reply (record r { rest = l })) e)
 
-pub reply_found : (b : List ℕ) → IsBytes b → reply_reason b ≡ None → (drop 1 b ≡ reply (reply_at b)) × HasReplyFields (reply_at b)
+pub reply_found : (b : List ℕ) → IsOctets b → reply_reason b ≡ None → (drop 1 b ≡ reply (reply_at b)) × HasReplyFields (reply_at b)
 reply_found b bytes h =
     let opts = octet_at b 1 in
     let one = first_none (ltb (length b) 2) (Short (length b)) _ h in
@@ -69,7 +71,7 @@ reply_found b bytes h =
     let all_fits : reply_rest_place b ≤ length b = ltb-false _ _ four.0 in
     let pan_fits : reply_keying_place b ≤ length b = omega (arith, all_fits) in
     let options = octet_codec.split b 1 bytes first_fits in
-    let pan = (optional_codec _ _ _ _ number16_codec (bit 0 opts)).split b 2 bytes pan_fits in
+    let pan = (optional_codec _ _ _ _ number16_codec (has_bit opts 1)).split b 2 bytes pan_fits in
     let keying = (keying_codec (reply_wanted opts)).split b (reply_keying_place b) bytes all_fits in
     let all = join b 1 2 (octet opts) _ options.0 (join b 2 (reply_keying_place b) _ _ pan.0 keying.0) in (
       all ∙ sym (reply_in_order (reply_at b) (drop (reply_rest_place b) b) refl),
@@ -83,12 +85,12 @@ reply_found b bytes h =
 pub reply_again : (b : List ℕ) (r : Reply) → At b 1 (reply r) → HasReplyFields r → (reply_reason b ≡ None) × (reply_at b ≡ r)
 reply_again b r at has =
     let opts = octet_at b 1 in
-    let start : At b 1 (octet r.options ++ (spelled (to_le_bytes w16) r.pan ++ (keying_octets (reply_keying_of r) ++ r.rest))) =
+    let start : At b 1 (octet r.options ++ (optional (to_le_bytes w16) r.pan ++ (keying_octets (reply_keying_of r) ++ r.rest))) =
     record { rest = at.rest ∙ reply_in_order r r.rest refl; within = at.within } in
     let options = octet_codec.again b 1 r.options _ start tt in
     let back = sym options.0 in
-    let pan = (optional_codec _ _ _ _ number16_codec (bit 0 opts)).again b 2 r.pan _ options.1
-    (subst (λ (x : ℕ). IsField (bit 0 x) (λ n. n < 2 ^ 16) r.pan) back has.pan) in
+    let pan = (optional_codec _ _ _ _ number16_codec (has_bit opts 1)).again b 2 r.pan _ options.1
+    (subst (λ (x : ℕ). IsField (has_bit x 1) (λ n. n < 2 ^ 16) r.pan) back has.pan) in
     let keying = (keying_codec (reply_wanted opts)).again b (reply_keying_place b) (reply_keying_of r) r.rest pan.1
     (subst (λ (x : ℕ). HasKeying (reply_wanted x) (reply_keying_of r)) back has.keying) in
     let tests = free_tests (reply_level opts) (reply_key_kind opts) (subst (λ (x : ℕ). reserved (reply_level x) (reply_key_kind x) ≡ None) back has.free) in

@@ -1,7 +1,8 @@
 -- Application information of a Commissioning (Zigbee PRO Green Power, A.4.2, Commissioning command).
 use Rattle.std.specs.Prelude.{ℕ, ◌+◌, ◌*◌, ◌/◌, ◌%◌, Bool, true, List, length, ◌==◌, Option, Some, None, if◌then◌else◌}
 use Rattle.gp_commands.specs.declared.application.Application.{Application}
-use Rattle.gp_commands.specs.Fields.{bit, octet_at, octets_at, number16_at, size_if, value_if}
+use Rattle.gp_base.specs.Field.{has_bit, part, two_at}
+use Rattle.gp_commands.specs.Fields.{octet_at, size_if, value_if}
 
 -- how many octets clusters take after their first one, which counts those of servers in its bits 0 to 3 and
 -- those of clients in its bits 4 to 7
@@ -13,33 +14,33 @@ abbrev pub clusters_agree : Option (List ℕ) → Bool
 clusters_agree None = true
 clusters_agree (Some clusters) = length clusters == 1 + clusters_size (octet_at clusters 0)
 
--- The places of its fields, where its first octet would stand at a place, and is there by bit 2 of the options.
+-- The places of its fields, where its first octet would stand at a place, and is there by has_bit of 4 the options.
 -- What a field's flags and counts say is read at its place; a missing octet counts as 0.
 
 -- the octet with the flags, 0 where it is absent
 abbrev pub flags_at : ℕ → List ℕ → ℕ → ℕ
-flags_at options b place = if bit 2 options then octet_at b place else 0
+flags_at options b place = if has_bit options 4 then octet_at b place else 0
 
 abbrev pub manufacturer_place : ℕ → ℕ → ℕ
-manufacturer_place options place = place + size_if (bit 2 options) 1
+manufacturer_place options place = place + size_if (has_bit options 4) 1
 
 abbrev pub model_place : ℕ → List ℕ → ℕ → ℕ
-model_place options b place = manufacturer_place options place + size_if (bit 0 (flags_at options b place)) 2
+model_place options b place = manufacturer_place options place + size_if (has_bit (flags_at options b place) 1) 2
 
 abbrev pub commands_place : ℕ → List ℕ → ℕ → ℕ
-commands_place options b place = model_place options b place + size_if (bit 1 (flags_at options b place)) 2
+commands_place options b place = model_place options b place + size_if (has_bit (flags_at options b place) 2) 2
 
 -- behind the list of commands, which stands behind its count
 abbrev pub clusters_place : ℕ → List ℕ → ℕ → ℕ
 clusters_place options b place =
     let here = commands_place options b place in
-    here + size_if (bit 2 (flags_at options b place)) (1 + octet_at b here)
+    here + size_if (has_bit (flags_at options b place) 4) (1 + octet_at b here)
 
 -- behind it all
 unfoldable pub application_end : ℕ → List ℕ → ℕ → ℕ
 application_end options b place =
     let here = clusters_place options b place in
-    here + size_if (bit 3 (flags_at options b place)) (1 + clusters_size (octet_at b here))
+    here + size_if (has_bit (flags_at options b place) 8) (1 + clusters_size (octet_at b here))
 
 -- what stands there
 unfoldable pub application_at : ℕ → List ℕ → ℕ → Application
@@ -48,9 +49,9 @@ application_at options b place =
     let commands = commands_place options b place in
     let clusters = clusters_place options b place in
     record {
-      information = value_if (bit 2 options) (octet_at b place);
-      manufacturer = value_if (bit 0 flags) (number16_at b (manufacturer_place options place));
-      model = value_if (bit 1 flags) (number16_at b (model_place options b place));
-      commands = value_if (bit 2 flags) (octets_at (octet_at b commands) b (commands + 1));
-      clusters = value_if (bit 3 flags) (octets_at (1 + clusters_size (octet_at b clusters)) b clusters);
+      information = value_if (has_bit options 4) (octet_at b place);
+      manufacturer = value_if (has_bit flags 1) (two_at b (manufacturer_place options place));
+      model = value_if (has_bit flags 2) (two_at b (model_place options b place));
+      commands = value_if (has_bit flags 4) (part b (commands + 1) (octet_at b commands));
+      clusters = value_if (has_bit flags 8) (part b clusters (1 + clusters_size (octet_at b clusters)));
     }

@@ -9,7 +9,8 @@ use Rattle.gp_commands.specs.declared.command.GpdCommand.TheVariants.{Plain, Mov
 use Rattle.gp_commands.specs.declared.command.CommandReason.{CommandReason}
 use Rattle.gp_commands.specs.declared.command.CommandReason.TheVariants.{Empty, Short}
 use Rattle.gp_commands.specs.declared.form.TheConstants.{REPORT, COMMISSIONING, REPLY, CHANNEL_REQUEST, CHANNEL_CONFIG}
-use Rattle.gp_commands.specs.Fields.{octet, spelled, octet_at, answer}
+use Rattle.gp_base.specs.Field.{optional}
+use Rattle.gp_commands.specs.Fields.{octet, octet_at, answer}
 use Rattle.gp_commands.specs.Forms.{form_of}
 use Rattle.gp_commands.specs.Level.{HasMoveRest, HasStepRest, move_at, step_at}
 use Rattle.gp_commands.specs.Report.{AreRecords, report_reason, report_at}
@@ -21,8 +22,8 @@ use Rattle.gp_commands.specs.Reply.{reply, reply_fields_agree, HasReplyWidths, r
 -- its octets
 abbrev pub spelling : GpdCommand → List ℕ
 spelling (Plain id rest) = id ∷ rest
-spelling (Move id rate rest) = id ∷ (spelled octet rate ++ rest)
-spelling (Step id size time rest) = id ∷ size ∷ (spelled (to_le_bytes w16) time ++ rest)
+spelling (Move id rate rest) = id ∷ (optional octet rate ++ rest)
+spelling (Step id size time rest) = id ∷ size ∷ (optional (to_le_bytes w16) time ++ rest)
 spelling (Vector id value rest) = id ∷ value ∷ rest
 spelling (Report cluster records) = REPORT ∷ (to_le_bytes w16 cluster ++ records)
 spelling (Commissioning c) = COMMISSIONING ∷ commissioning c

@@ -1,15 +1,15 @@
 -- The Commissioning command (Zigbee PRO Green Power, A.4.2.1.1).
-use Rattle.std.specs.Prelude.{◌≡◌, ℕ, ◌+◌, ◌*◌, ◌/◌, ◌%◌, ◌<◌, ◌≤◌, ◌^◌, ◌==◌, nat_lt, Bool, true, if◌then◌else◌, ◌&&◌, ◌||◌, List, [], ◌∷◌, ◌++◌, length, drop, Option, Some, None, is_some, is_none, unwrap_or, IfSome, IsTrue}
+use Rattle.std.specs.Prelude.{◌≡◌, ℕ, ◌+◌, ◌*◌, ◌/◌, ◌%◌, ◌<◌, ◌≤◌, ◌^◌, ◌==◌, nat_lt, Bool, true, if◌then◌else◌, ◌&&◌, ◌||◌, List, [], ◌∷◌, length, drop, Option, Some, None, is_some, is_none, unwrap_or, IfSome, IsTrue}
 use Rattle.std.specs.Int.{w16, w32, to_le_bytes}
 use Rattle.gp_base.specs.Table.{first_of}
 use Rattle.gp_commands.specs.declared.command.Commissioning.{Commissioning}
-use Rattle.gp_commands.specs.declared.commissioning.Header.{Header}
 use Rattle.gp_commands.specs.declared.command.CommandReason.{CommandReason}
 use Rattle.gp_commands.specs.declared.command.CommandReason.TheVariants.{Short, ReservedLevel, ReservedKeyKind}
-use Rattle.gp_commands.specs.Fields.{bit, agree, octet, key_octets, counted, spelled, joined, octet_at, octets_at, number16_at, size_if, value_if}
+use Rattle.gp_base.specs.Field.{has_bit, optional, part, two_at}
+use Rattle.gp_commands.specs.Fields.{agree, octet, key_octets, counted, joined, octet_at, size_if, value_if}
 use Rattle.gp_commands.specs.Application.{clusters_agree, application_end, application_at}
 use Rattle.gp_commands.specs.declared.keying.Wanted.{Wanted}
-use Rattle.gp_commands.specs.Keying.{reserved, keying_octets, keying_size, keying_at}
+use Rattle.gp_commands.specs.Keying.{reserved, keying_size, keying_at}
 
 -- ---- flags
 
@@ -23,7 +23,7 @@ key_kind extended = extended / 4 % 8
 
 -- the key by bit 5, its MIC by bits 5 and 6, the counter by bit 7
 abbrev pub wanted_by : ℕ → Wanted
-wanted_by extended = record { key = bit 5 extended; mic = bit 5 extended && bit 6 extended; counter = bit 7 extended }
+wanted_by extended = record { key = has_bit extended 32; mic = has_bit extended 32 && has_bit extended 64; counter = has_bit extended 128 }
 
 -- ---- what a Commissioning is
 
@@ -33,43 +33,24 @@ commissioning c =
     joined
     (octet c.device
     ∷ octet c.options
-    ∷ spelled octet c.extended
-    ∷ spelled key_octets c.key
-    ∷ spelled (λ mic. mic) c.key_mic
-    ∷ spelled (to_le_bytes w32) c.counter
-    ∷ spelled octet c.application
-    ∷ spelled (to_le_bytes w16) c.manufacturer
-    ∷ spelled (to_le_bytes w16) c.model
-    ∷ spelled counted c.commands
-    ∷ spelled (λ clusters. clusters) c.clusters
+    ∷ optional octet c.extended
+    ∷ optional key_octets c.key
+    ∷ optional (λ mic. mic) c.key_mic
+    ∷ optional (to_le_bytes w32) c.counter
+    ∷ optional octet c.application
+    ∷ optional (to_le_bytes w16) c.manufacturer
+    ∷ optional (to_le_bytes w16) c.model
+    ∷ optional counted c.commands
+    ∷ optional (λ clusters. clusters) c.clusters
     ∷ c.rest
     ∷ [])
-
--- the part before the key, and the application information
-unfoldable pub header_octets : Commissioning → List ℕ
-header_octets c = joined (octet c.device ∷ octet c.options ∷ spelled octet c.extended ∷ [])
-
-unfoldable pub application_octets : Commissioning → List ℕ
-application_octets c =
-    joined
-    (spelled octet c.application
-    ∷ spelled (to_le_bytes w16) c.manufacturer
-    ∷ spelled (to_le_bytes w16) c.model
-    ∷ spelled counted c.commands
-    ∷ spelled (λ clusters. clusters) c.clusters
-    ∷ [])
-
-abbrev pub commissioning_in_parts : Commissioning → List ℕ
-commissioning_in_parts c =
-    header_octets c
-    ++ (keying_octets (record { key = c.key; mic = c.key_mic; counter = c.counter }) ++ (application_octets c ++ c.rest))
 
 -- The extended options, the key, its MIC and the counter are there exactly where their flags say so, and neither
 -- the level nor the kind of key is reserved.
 abbrev pub security_agrees : Commissioning → Bool
 security_agrees c =
     let wanted = wanted_by (unwrap_or c.extended 0) in
-    agree (is_some c.extended) (bit 7 c.options)
+    agree (is_some c.extended) (has_bit c.options 128)
     && is_none (reserved (level (unwrap_or c.extended 0)) (key_kind (unwrap_or c.extended 0)))
     && agree (is_some c.key) wanted.key
     && agree (is_some c.key_mic) wanted.mic
@@ -79,11 +60,11 @@ security_agrees c =
 abbrev pub application_agrees : Commissioning → Bool
 application_agrees c =
     let flags = unwrap_or c.application 0 in
-    agree (is_some c.application) (bit 2 c.options)
-    && agree (is_some c.manufacturer) (bit 0 flags)
-    && agree (is_some c.model) (bit 1 flags)
-    && agree (is_some c.commands) (bit 2 flags)
-    && agree (is_some c.clusters) (bit 3 flags)
+    agree (is_some c.application) (has_bit c.options 4)
+    && agree (is_some c.manufacturer) (has_bit flags 1)
+    && agree (is_some c.model) (has_bit flags 2)
+    && agree (is_some c.commands) (has_bit flags 4)
+    && agree (is_some c.clusters) (has_bit flags 8)
     && clusters_agree c.clusters
 
 abbrev pub fields_agree : Commissioning → Bool
@@ -101,15 +82,11 @@ pub record HasCommissioningWidths (c : Commissioning) : Type 0 where
 
 -- the octet with the level and the kind of key, 0 where it is absent
 abbrev pub extended_at : List ℕ → ℕ
-extended_at b = if bit 7 (octet_at b 2) then octet_at b 3 else 0
+extended_at b = if has_bit (octet_at b 2) 128 then octet_at b 3 else 0
 
 -- where the key would stand
 abbrev pub keying_place : List ℕ → ℕ
-keying_place b = 3 + size_if (bit 7 (octet_at b 2)) 1
-
--- what stands before the key
-abbrev pub header_at : List ℕ → Header
-header_at b = record { device = octet_at b 1; options = octet_at b 2; extended = value_if (bit 7 (octet_at b 2)) (octet_at b 3) }
+keying_place b = 3 + size_if (has_bit (octet_at b 2) 128) 1
 
 -- where the application information would stand
 abbrev pub application_place : List ℕ → ℕ
@@ -137,7 +114,7 @@ commissioning_at b =
     record {
       device = octet_at b 1;
       options = octet_at b 2;
-      extended = value_if (bit 7 (octet_at b 2)) (octet_at b 3);
+      extended = value_if (has_bit (octet_at b 2) 128) (octet_at b 3);
       key = keying.key;
       key_mic = keying.mic;
       counter = keying.counter;

@@ -7,21 +7,12 @@ use Rattle.gp_commands.specs.declared.keying.Keying.{Keying}
 use Rattle.gp_commands.specs.declared.keying.Wanted.{Wanted}
 use Rattle.gp_commands.specs.declared.command.CommandReason.{CommandReason}
 use Rattle.gp_commands.specs.declared.command.CommandReason.TheVariants.{ReservedLevel, ReservedKeyKind}
-use Rattle.gp_commands.specs.Fields.{key_at, octets_at, number32_at, size_if, value_if, spelled, key_octets}
+use Rattle.gp_base.specs.Field.{four_at, optional, part}
+use Rattle.gp_commands.specs.Fields.{key_at, size_if, value_if, key_octets}
 
 -- level 1, and the kinds of key 5 and 6, are reserved
 abbrev pub reserved : ℕ → ℕ → Option CommandReason
 reserved level kind = first_of ((level == 1, ReservedLevel) ∷ ((kind == 5) || (kind == 6), ReservedKeyKind) ∷ [])
-
--- the octets of the three
-unfoldable pub keying_octets : Keying → List ℕ
-keying_octets keying = spelled key_octets keying.key ++ (spelled (λ mic. mic) keying.mic ++ spelled (to_le_bytes w32) keying.counter)
-
--- The key has 16 octets and the MIC 4, and the counter fits four octets.
-pub record HasKeyingWidths (keying : Keying) : Type 0 where
-  pub key : IfSome keying.key (λ key. length (key_octets key) ≡ 16)
-  pub mic : IfSome keying.mic (λ mic. length mic ≡ 4)
-  pub counter : IfSome keying.counter (λ n. n < 2 ^ 32)
 
 -- how many octets they take
 unfoldable pub keying_size : Wanted → ℕ
@@ -31,6 +22,6 @@ keying_size wanted = size_if wanted.key 16 + size_if wanted.mic 4 + size_if want
 unfoldable pub keying_at : Wanted → List ℕ → ℕ → Keying
 keying_at wanted b place = record {
   key = value_if wanted.key (key_at b place);
-  mic = value_if wanted.mic (octets_at 4 b (place + size_if wanted.key 16));
-  counter = value_if wanted.counter (number32_at b (place + size_if wanted.key 16 + size_if wanted.mic 4));
+  mic = value_if wanted.mic (part b (place + size_if wanted.key 16) 4);
+  counter = value_if wanted.counter (four_at b (place + size_if wanted.key 16 + size_if wanted.mic 4));
 }

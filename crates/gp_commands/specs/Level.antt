@@ -3,7 +3,8 @@ use Rattle.std.specs.Prelude.{◌≡◌, ℕ, ◌+◌, ◌≤◌, nat_le, List, 
 use Rattle.gp_base.specs.declared.identity.Key.{Key}
 use Rattle.gp_commands.specs.declared.command.GpdCommand.{GpdCommand}
 use Rattle.gp_commands.specs.declared.command.GpdCommand.TheVariants.{Move, Step}
-use Rattle.gp_commands.specs.Fields.{octet_at, number16_at, size_if, value_if}
+use Rattle.gp_base.specs.Field.{two_at}
+use Rattle.gp_commands.specs.Fields.{octet_at, size_if, value_if}
 
 -- without a rate there is no rest
 abbrev pub HasMoveRest : Option ℕ → List ℕ → Type 0
@@ -20,5 +21,5 @@ move_at b = Move (octet_at b 0) (value_if (nat_le 2 (length b)) (octet_at b 1)) 
 -- Step: the time is there where two octets are left after the size
 abbrev pub step_at : List ℕ → GpdCommand
 step_at b =
-    Step (octet_at b 0) (octet_at b 1) (value_if (nat_le 4 (length b)) (number16_at b 2))
+    Step (octet_at b 0) (octet_at b 1) (value_if (nat_le 4 (length b)) (two_at b 2))
     (drop (2 + size_if (nat_le 4 (length b)) 2) b)

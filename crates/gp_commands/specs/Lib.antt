@@ -8,3 +8,4 @@ pub mod Application
 pub mod Commissioning
 pub mod Reply
 pub mod Command
+pub mod Inside

@@ -1,13 +1,14 @@
 -- The Commissioning Reply command (Zigbee PRO Green Power, A.4.2, Commissioning Reply command).
-use Rattle.std.specs.Prelude.{◌≡◌, ℕ, ◌+◌, ◌/◌, ◌%◌, ◌^◌, ◌<◌, ◌==◌, IfSome, nat_lt, Bool, ◌&&◌, ◌||◌, List, [], ◌∷◌, ◌++◌, length, drop, Option, is_some, is_none}
+use Rattle.std.specs.Prelude.{◌≡◌, ℕ, ◌+◌, ◌/◌, ◌%◌, ◌^◌, ◌<◌, ◌==◌, IfSome, nat_lt, Bool, ◌&&◌, ◌||◌, List, [], ◌∷◌, length, drop, Option, is_some, is_none}
 use Rattle.std.specs.Int.{w16, w32, to_le_bytes}
 use Rattle.gp_base.specs.Table.{first_of}
 use Rattle.gp_commands.specs.declared.command.Reply.{Reply}
 use Rattle.gp_commands.specs.declared.command.CommandReason.{CommandReason}
 use Rattle.gp_commands.specs.declared.command.CommandReason.TheVariants.{Short, ReservedLevel, ReservedKeyKind}
-use Rattle.gp_commands.specs.Fields.{bit, agree, octet, key_octets, spelled, joined, octet_at, number16_at, size_if, value_if}
+use Rattle.gp_base.specs.Field.{has_bit, optional, two_at}
+use Rattle.gp_commands.specs.Fields.{agree, octet, key_octets, joined, octet_at, size_if, value_if}
 use Rattle.gp_commands.specs.declared.keying.Wanted.{Wanted}
-use Rattle.gp_commands.specs.Keying.{reserved, keying_octets, keying_size, keying_at}
+use Rattle.gp_commands.specs.Keying.{reserved, keying_size, keying_at}
 
 -- ---- flags
 
@@ -21,7 +22,7 @@ reply_key_kind options = options / 32
 
 -- the key by bit 1, its MIC and the counter by bits 1 and 2
 abbrev pub reply_wanted : ℕ → Wanted
-reply_wanted options = record { key = bit 1 options; mic = bit 1 options && bit 2 options; counter = bit 1 options && bit 2 options }
+reply_wanted options = record { key = has_bit options 2; mic = has_bit options 2 && has_bit options 4; counter = has_bit options 2 && has_bit options 4 }
 
 -- ---- what a Reply is
 
@@ -30,25 +31,18 @@ unfoldable pub reply : Reply → List ℕ
 reply r =
     joined
     (octet r.options
-    ∷ spelled (to_le_bytes w16) r.pan
-    ∷ spelled key_octets r.key
-    ∷ spelled (λ mic. mic) r.key_mic
-    ∷ spelled (to_le_bytes w32) r.counter
+    ∷ optional (to_le_bytes w16) r.pan
+    ∷ optional key_octets r.key
+    ∷ optional (λ mic. mic) r.key_mic
+    ∷ optional (to_le_bytes w32) r.counter
     ∷ r.rest
     ∷ [])
-
--- the part before the key
-unfoldable pub reply_header_octets : Reply → List ℕ
-reply_header_octets r = joined (octet r.options ∷ spelled (to_le_bytes w16) r.pan ∷ [])
-
-abbrev pub reply_in_parts : Reply → List ℕ
-reply_in_parts r = reply_header_octets r ++ (keying_octets (record { key = r.key; mic = r.key_mic; counter = r.counter }) ++ r.rest)
 
 -- each field is there exactly where its flag says so, and neither the level nor the kind of key is reserved
 abbrev pub reply_fields_agree : Reply → Bool
 reply_fields_agree r =
     let wanted = reply_wanted r.options in
-    agree (is_some r.pan) (bit 0 r.options)
+    agree (is_some r.pan) (has_bit r.options 1)
     && is_none (reserved (reply_level r.options) (reply_key_kind r.options))
     && agree (is_some r.key) wanted.key
     && agree (is_some r.key_mic) wanted.mic
@@ -65,7 +59,7 @@ pub record HasReplyWidths (r : Reply) : Type 0 where
 
 -- where the key would stand
 abbrev pub reply_keying_place : List ℕ → ℕ
-reply_keying_place b = 2 + size_if (bit 0 (octet_at b 1)) 2
+reply_keying_place b = 2 + size_if (has_bit (octet_at b 1) 1) 2
 
 -- where the rest begins
 abbrev pub reply_rest_place : List ℕ → ℕ
@@ -87,7 +81,7 @@ reply_at b =
     let keying = keying_at (reply_wanted (octet_at b 1)) b (reply_keying_place b) in
     record {
       options = octet_at b 1;
-      pan = value_if (bit 0 (octet_at b 1)) (number16_at b 2);
+      pan = value_if (has_bit (octet_at b 1) 1) (two_at b 2);
       key = keying.key;
       key_mic = keying.mic;
       counter = keying.counter;

@@ -1,12 +1,13 @@
 -- Attribute reports (Zigbee PRO Green Power, A.4.2.3; Zigbee Cluster Library, 2.5.11).
-use Rattle.std.specs.Prelude.{◌≡◌, ℕ, zero, suc, ◌+◌, ◌==◌, nat_lt, List, [], ◌∷◌, ◌++◌, length, drop, Option, Some, None, Result, is_none, unwrap_or, if◌then◌else◌}
+use Rattle.std.specs.Prelude.{◌≡◌, ℕ, zero, suc, ◌+◌, ◌==◌, nat_lt, List, [], ◌∷◌, ◌++◌, length, drop, Option, Some, None, is_none, unwrap_or, if◌then◌else◌}
 use Rattle.std.specs.List.{flat_map, AllByRecursion}
 use Rattle.gp_base.specs.Table.{first_of}
 use Rattle.gp_commands.specs.declared.command.GpdCommand.{GpdCommand}
 use Rattle.gp_commands.specs.declared.command.GpdCommand.TheVariants as commands
 use Rattle.gp_commands.specs.declared.command.CommandReason.{CommandReason}
 use Rattle.gp_commands.specs.declared.command.CommandReason.TheVariants.{Short, ValueKind}
-use Rattle.gp_commands.specs.Fields.{octet_at, number16_at, answer, or_else}
+use Rattle.gp_base.specs.Field.{two_at}
+use Rattle.gp_commands.specs.Fields.{octet_at, or_else}
 use Rattle.gp_commands.specs.Values.{value_size}
 
 -- ---- what a report is
@@ -51,10 +52,6 @@ entry_reason b place =
     ∷ (nat_lt (length b) (next_place b place), Short (length b))
     ∷ [])
 
--- The entry that begins at a place ends here, or this is what is wrong with it.
-abbrev pub EntryEnds : List ℕ → ℕ → Result ℕ CommandReason → Type 0
-EntryEnds b place end = end ≡ answer (entry_reason b place) (next_place b place)
-
 -- what is wrong with the entry that begins at a place, or with those after it, of which so many are looked at
 unfoldable pub entries_reason : ℕ → List ℕ → ℕ → Option CommandReason
 entries_reason zero b place = None
@@ -67,4 +64,4 @@ abbrev pub report_reason : List ℕ → Option CommandReason
 report_reason b = if nat_lt (length b) 3 then Some (Short (length b)) else entries_reason (length b) b 3
 
 abbrev pub report_at : List ℕ → GpdCommand
-report_at b = commands.Report (number16_at b 1) (drop 3 b)
+report_at b = commands.Report (two_at b 1) (drop 3 b)

@@ -1,7 +1,9 @@
 //! The application information of a Commissioning.
 
 ghost use Rattle.std.specs.Prelude.{◌≡◌, ◌+◌, ◌≤◌, length};
-ghost use Rattle.gp_commands.specs.Fields.{Takes, TakesTo, IsWithin, octet_at, octets_at, size_if, value_if};
+ghost use Rattle.gp_base.specs.Field.{part};
+ghost use Rattle.gp_commands.specs.Inside.{Takes, TakesTo, IsWithin};
+ghost use Rattle.gp_commands.specs.Fields.{octet_at, size_if, value_if};
 ghost use Rattle.gp_commands.specs.Application.{application_end, application_at};
 
 use crate::field::{add, add_octet, is_set, number16_if, octet, octet_if, octets};
@@ -33,7 +35,7 @@ fn counted_if(reader: &mut Reader, there: bool) -> Option<Option<Octets>>
     requires within { IsWithin reader.old }
     requires room { length reader.old.octets ≤ 127 }
     ensures { Takes (size_if there (1 + octet_at reader.old.octets reader.old.place))
-        (value_if there (octets_at (octet_at reader.old.octets reader.old.place) reader.old.octets (reader.old.place + 1)))
+        (value_if there (part reader.old.octets (reader.old.place + 1) (octet_at reader.old.octets reader.old.place)))
         reader.old reader.new result }
 {
     if !there {
@@ -47,7 +49,7 @@ fn counted_if(reader: &mut Reader, there: bool) -> Option<Option<Octets>>
 fn clusters_if(reader: &mut Reader, there: bool) -> Option<Option<Octets>>
     requires { IsWithin reader.old }
     ensures { Takes (size_if there (1 + Rattle.gp_commands.specs.Application.clusters_size (octet_at reader.old.octets reader.old.place)))
-        (value_if there (octets_at (1 + Rattle.gp_commands.specs.Application.clusters_size (octet_at reader.old.octets reader.old.place)) reader.old.octets reader.old.place))
+        (value_if there (part reader.old.octets reader.old.place (1 + Rattle.gp_commands.specs.Application.clusters_size (octet_at reader.old.octets reader.old.place))))
         reader.old reader.new result }
 {
     if !there {
@@ -61,7 +63,7 @@ fn clusters_if(reader: &mut Reader, there: bool) -> Option<Option<Octets>>
     Some(Some(clusters))
 }
 
-/// Takes the application information, which is there by bit 2 of a Commissioning's options.
+/// Takes the application information, which is there by has_bit of 4 a Commissioning's options.
 #[tactic(auto, unfolding(crate::specs::Application::application_end, crate::specs::Application::application_at))]
 pub(crate) fn take_application(reader: &mut Reader, options: u8) -> Option<Application>
     requires within { IsWithin reader.old }

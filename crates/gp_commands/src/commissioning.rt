@@ -1,9 +1,10 @@
 //! The Commissioning command.
 
 ghost use Rattle.std.specs.Prelude.{◌≡◌, ◌≤◌, ◌<◌, ◌^◌, length, IfSome, OnSome};
-ghost use Rattle.gp_commands.specs.Fields.{TakesTo, Adds, answer};
+ghost use Rattle.gp_commands.specs.Inside.{TakesTo, Adds, header_at, commissioning_in_parts, header_octets, application_octets};
+ghost use Rattle.gp_commands.specs.Fields.{answer};
 ghost use Rattle.gp_commands.specs.Application;
-ghost use Rattle.gp_commands.specs.Commissioning.{keying_place, header_at, commissioning_reason, commissioning_at, commissioning, commissioning_in_parts, header_octets, application_octets, HasCommissioningWidths};
+ghost use Rattle.gp_commands.specs.Commissioning.{keying_place, commissioning_reason, commissioning_at, commissioning, HasCommissioningWidths};
 
 use crate::application::{clusters_size, take_application};
 use crate::command::{CommandReason, Commissioning, short};
@@ -165,7 +166,7 @@ fn add_parts(out: &mut Octets, c: &Commissioning) -> Option<()>
 }
 
 /// Adds the header.
-#[tactic(auto, unfolding(crate::specs::Commissioning::header_octets))]
+#[tactic(auto, unfolding(crate::specs::Inside::header_octets))]
 fn add_header(out: &mut Octets, c: &Commissioning) -> Option<()>
     ensures { Adds (header_octets c.now) out.old out.new result }
 {
@@ -175,7 +176,7 @@ fn add_header(out: &mut Octets, c: &Commissioning) -> Option<()>
 }
 
 /// Adds the application information.
-#[tactic(auto, unfolding(crate::specs::Commissioning::application_octets))]
+#[tactic(auto, unfolding(crate::specs::Inside::application_octets))]
 fn add_application(out: &mut Octets, c: &Commissioning) -> Option<()>
     ensures added { Adds (application_octets c.now) out.old out.new result }
     ensures manufacturer { OnSome result (IfSome c.now.manufacturer (λ n. n < 2 ^ 16)) }

@@ -1,8 +1,10 @@
 //! The fields of a payload: each is taken from a reader, and added to octets that are being spelled.
 
-ghost use Rattle.std.specs.Prelude.{◌≡◌, ◌+◌, ◌/◌, ◌%◌, ◌==◌, ◌<◌, ◌≤◌, ◌^◌, length, drop, IfSome, IfNone};
+ghost use Rattle.std.specs.Prelude.{◌≡◌, ◌+◌, ◌<◌, ◌≤◌, ◌^◌, length, drop, IfSome, IfNone};
 ghost use Rattle.std.specs.Int.{w16, w32, to_le_bytes};
-ghost use Rattle.gp_commands.specs.Fields.{Takes, IsWithin, Adds, octet_at, octets_at, number16_at, number32_at, key_at, size_if, value_if, octet as one, key_octets, counted, spelled};
+ghost use Rattle.gp_base.specs.Field.{four_at, has_bit, optional, part, two_at};
+ghost use Rattle.gp_commands.specs.Inside.{Takes, IsWithin, Adds};
+ghost use Rattle.gp_commands.specs.Fields.{octet_at, key_at, size_if, value_if, octet as one, key_octets, counted};
 
 use gp_base::{Key, Octets, Reader};
 
@@ -11,7 +13,7 @@ use gp_base::{Key, Octets, Reader};
 /// Whether a flag is set, given by its weight in the octet.
 pub(crate) fn is_set(octet: u8, weight: u8) -> bool
     requires { 0 < weight }
-    ensures { result ≡ (octet / weight % 2 == 1) }
+    ensures { result ≡ has_bit octet weight }
 {
     octet / weight % 2 == 1
 }
@@ -37,7 +39,7 @@ pub(crate) fn octet(reader: &mut Reader) -> Option<u8>
 
 /// The next two octets as a number, the least significant first.
 pub(crate) fn number16(reader: &mut Reader) -> Option<u16>
-    ensures taken { Takes 2 (number16_at reader.old.octets reader.old.place) reader.old reader.new result }
+    ensures taken { Takes 2 (two_at reader.old.octets reader.old.place) reader.old reader.new result }
     ensures kept { IfNone result (reader.new ≡ reader.old) }
 {
     let taken = reader.take(2)?;
@@ -46,7 +48,7 @@ pub(crate) fn number16(reader: &mut Reader) -> Option<u16>
 
 /// The next four octets as a number, the least significant first.
 pub(crate) fn number32(reader: &mut Reader) -> Option<u32>
-    ensures { Takes 4 (number32_at reader.old.octets reader.old.place) reader.old reader.new result }
+    ensures { Takes 4 (four_at reader.old.octets reader.old.place) reader.old reader.new result }
 {
     let taken = reader.take(4)?;
     Some(u32::from_le_bytes([taken[0], taken[1], taken[2], taken[3]]))
@@ -54,7 +56,7 @@ pub(crate) fn number32(reader: &mut Reader) -> Option<u32>
 
 /// The next four octets, a MIC.
 pub(crate) fn mic(reader: &mut Reader) -> Option<[u8; 4]>
-    ensures { Takes 4 (octets_at 4 reader.old.octets reader.old.place) reader.old reader.new result }
+    ensures { Takes 4 (part reader.old.octets reader.old.place 4) reader.old reader.new result }
 {
     let taken = reader.take(4)?;
     Some([taken[0], taken[1], taken[2], taken[3]])
@@ -73,7 +75,7 @@ pub(crate) fn key(reader: &mut Reader) -> Option<Key>
 /// The next `count` octets.
 pub(crate) fn octets(reader: &mut Reader, count: usize) -> Option<Octets>
     requires { length reader.old.octets ≤ 127 }
-    ensures { Takes count (octets_at count reader.old.octets reader.old.place) reader.old reader.new result }
+    ensures { Takes count (part reader.old.octets reader.old.place count) reader.old reader.new result }
 {
     let taken = reader.take(count)?;
     Octets::of(taken)
@@ -93,7 +95,7 @@ pub(crate) fn octet_if(reader: &mut Reader, there: bool) -> Option<Option<u8>>
 /// A number of two octets that is there or not.
 pub(crate) fn number16_if(reader: &mut Reader, there: bool) -> Option<Option<u16>>
     requires { IsWithin reader.old }
-    ensures { Takes (size_if there 2) (value_if there (number16_at reader.old.octets reader.old.place)) reader.old reader.new result }
+    ensures { Takes (size_if there 2) (value_if there (two_at reader.old.octets reader.old.place)) reader.old reader.new result }
 {
     if !there {
         return Some(None);
@@ -104,7 +106,7 @@ pub(crate) fn number16_if(reader: &mut Reader, there: bool) -> Option<Option<u16
 /// A number of four octets that is there or not.
 pub(crate) fn number32_if(reader: &mut Reader, there: bool) -> Option<Option<u32>>
     requires { IsWithin reader.old }
-    ensures { Takes (size_if there 4) (value_if there (number32_at reader.old.octets reader.old.place)) reader.old reader.new result }
+    ensures { Takes (size_if there 4) (value_if there (four_at reader.old.octets reader.old.place)) reader.old reader.new result }
 {
     if !there {
         return Some(None);
@@ -115,7 +117,7 @@ pub(crate) fn number32_if(reader: &mut Reader, there: bool) -> Option<Option<u32
 /// A MIC that is there or not.
 pub(crate) fn mic_if(reader: &mut Reader, there: bool) -> Option<Option<[u8; 4]>>
     requires { IsWithin reader.old }
-    ensures { Takes (size_if there 4) (value_if there (octets_at 4 reader.old.octets reader.old.place)) reader.old reader.new result }
+    ensures { Takes (size_if there 4) (value_if there (part reader.old.octets reader.old.place 4)) reader.old reader.new result }
 {
     if !there {
         return Some(None);
@@ -176,7 +178,7 @@ pub(crate) fn add_number16(out: &mut Octets, number: u16) -> Option<()>
 
 /// Adds an octet that is there or not.
 pub(crate) fn add_octet_if(out: &mut Octets, octet: Option<u8>) -> Option<()>
-    ensures { Adds (spelled one octet) out.old out.new result }
+    ensures { Adds (optional one octet) out.old out.new result }
 {
     match octet {
         Some(octet) => add_octet(out, octet),
@@ -186,7 +188,7 @@ pub(crate) fn add_octet_if(out: &mut Octets, octet: Option<u8>) -> Option<()>
 
 /// Adds a number of two octets that is there or not.
 pub(crate) fn add_number16_if(out: &mut Octets, number: Option<u16>) -> Option<()>
-    ensures added { Adds (spelled (to_le_bytes w16) number) out.old out.new result }
+    ensures added { Adds (optional (to_le_bytes w16) number) out.old out.new result }
     ensures width { IfSome number (λ n. n < 2 ^ 16) }
 {
     match number {
@@ -197,7 +199,7 @@ pub(crate) fn add_number16_if(out: &mut Octets, number: Option<u16>) -> Option<(
 
 /// Adds a number of four octets that is there or not.
 pub(crate) fn add_number32_if(out: &mut Octets, number: Option<u32>) -> Option<()>
-    ensures added { Adds (spelled (to_le_bytes w32) number) out.old out.new result }
+    ensures added { Adds (optional (to_le_bytes w32) number) out.old out.new result }
     ensures width { IfSome number (λ n. n < 2 ^ 32) }
 {
     match number {
@@ -208,7 +210,7 @@ pub(crate) fn add_number32_if(out: &mut Octets, number: Option<u32>) -> Option<(
 
 /// Adds a MIC that is there or not.
 pub(crate) fn add_mic_if(out: &mut Octets, mic: Option<[u8; 4]>) -> Option<()>
-    ensures added { Adds (spelled (λ octets. octets) mic) out.old out.new result }
+    ensures added { Adds (optional (λ octets. octets) mic) out.old out.new result }
     ensures width { IfSome mic (λ octets. length octets ≡ 4) }
 {
     match mic {
@@ -219,7 +221,7 @@ pub(crate) fn add_mic_if(out: &mut Octets, mic: Option<[u8; 4]>) -> Option<()>
 
 /// Adds a key that is there or not.
 pub(crate) fn add_key_if(out: &mut Octets, key: Option<Key>) -> Option<()>
-    ensures added { Adds (spelled key_octets key) out.old out.new result }
+    ensures added { Adds (optional key_octets key) out.old out.new result }
     ensures width { IfSome key (λ k. length (key_octets k) ≡ 16) }
 {
     match key {
@@ -230,7 +232,7 @@ pub(crate) fn add_key_if(out: &mut Octets, key: Option<Key>) -> Option<()>
 
 /// Adds a list of octets that is there or not.
 pub(crate) fn add_octets_if(out: &mut Octets, octets: &Option<Octets>) -> Option<()>
-    ensures { Adds (spelled (λ octets. octets) octets.now) out.old out.new result }
+    ensures { Adds (optional (λ octets. octets) octets.now) out.old out.new result }
 {
     match octets {
         Some(octets) => add(out, octets.as_slice()),
@@ -240,7 +242,7 @@ pub(crate) fn add_octets_if(out: &mut Octets, octets: &Option<Octets>) -> Option
 
 /// Adds a list of octets that is there or not, behind its length.
 pub(crate) fn add_counted_if(out: &mut Octets, octets: &Option<Octets>) -> Option<()>
-    ensures { Adds (spelled counted octets.now) out.old out.new result }
+    ensures { Adds (optional counted octets.now) out.old out.new result }
 {
     match octets {
         Some(octets) => {

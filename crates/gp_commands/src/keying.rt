@@ -1,8 +1,8 @@
 //! A key, its MIC and a counter, as Commissioning and its reply carry them.
 
 ghost use Rattle.std.specs.Prelude.{◌≡◌, OnSome};
-ghost use Rattle.gp_commands.specs.Fields.{Takes, IsWithin, Adds};
-ghost use Rattle.gp_commands.specs.Keying.{keying_size, keying_at, keying_octets, HasKeyingWidths, reserved};
+ghost use Rattle.gp_commands.specs.Inside.{Takes, IsWithin, Adds, keying_octets, HasKeyingWidths};
+ghost use Rattle.gp_commands.specs.Keying.{keying_size, keying_at, reserved};
 
 use crate::command::CommandReason;
 use crate::field::{add_key_if, add_mic_if, add_number32_if, key_if, mic_if, number32_if};
@@ -50,7 +50,7 @@ pub(crate) fn take_keying(reader: &mut Reader, wanted: Wanted) -> Option<Keying>
 }
 
 /// Adds the three at the end.
-#[tactic(auto, unfolding(crate::specs::Keying::keying_octets))]
+#[tactic(auto, unfolding(crate::specs::Inside::keying_octets))]
 pub(crate) fn add_keying(out: &mut Octets, keying: Keying) -> Option<()>
     ensures added { Adds (keying_octets keying) out.old out.new result }
     ensures widths { OnSome result (HasKeyingWidths keying) }

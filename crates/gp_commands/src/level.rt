@@ -2,7 +2,9 @@
 
 ghost use Rattle.std.specs.Prelude.{◌≡◌, ◌<◌, ◌≤◌, ◌^◌, ◌↔◌, ◌∷◌, ◌++◌, length, nat_lt, Some, None, IsTrue, IfSome, OnSome, if◌then◌else◌};
 ghost use Rattle.std.specs.Int.{w16, to_le_bytes};
-ghost use Rattle.gp_commands.specs.Fields.{Adds, octet as one, octet_at, spelled};
+ghost use Rattle.gp_base.specs.Field.{optional};
+ghost use Rattle.gp_commands.specs.Inside.{Adds};
+ghost use Rattle.gp_commands.specs.Fields.{octet as one, octet_at};
 ghost use Rattle.gp_commands.specs.Level.{move_at, step_at, HasMoveRest, HasStepRest};
 
 use crate::command::GpdCommand;
@@ -59,7 +61,7 @@ pub(crate) fn has_step_rest(time: Option<u16>, rest: &Octets) -> bool
 
 /// Adds a Move.
 pub(crate) fn add_move(out: &mut Octets, id: u8, rate: Option<u8>, rest: &Octets) -> Option<()>
-    ensures { Adds (id ∷ (spelled one rate ++ rest.now)) out.old out.new result }
+    ensures { Adds (id ∷ (optional one rate ++ rest.now)) out.old out.new result }
 {
     add_octet(out, id)?;
     add_octet_if(out, rate)?;
@@ -74,7 +76,7 @@ pub(crate) fn add_step(
     time: Option<u16>,
     rest: &Octets,
 ) -> Option<()>
-    ensures added { Adds (id ∷ size ∷ (spelled (to_le_bytes w16) time ++ rest.now)) out.old out.new result }
+    ensures added { Adds (id ∷ size ∷ (optional (to_le_bytes w16) time ++ rest.now)) out.old out.new result }
     ensures width { OnSome result (IfSome time (λ n. n < 2 ^ 16)) }
 {
     add(out, &[id, size])?;

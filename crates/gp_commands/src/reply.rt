@@ -1,8 +1,9 @@
 //! The Commissioning Reply command.
 
 ghost use Rattle.std.specs.Prelude.{◌≡◌, ◌≤◌, ◌<◌, ◌^◌, length, IfSome, OnSome};
-ghost use Rattle.gp_commands.specs.Fields.{Adds, answer};
-ghost use Rattle.gp_commands.specs.Reply.{reply_reason, reply_at, reply_fields_agree, reply_in_parts, reply_header_octets, HasReplyWidths};
+ghost use Rattle.gp_commands.specs.Inside.{Adds, reply_in_parts, reply_header_octets};
+ghost use Rattle.gp_commands.specs.Fields.{answer};
+ghost use Rattle.gp_commands.specs.Reply.{reply_reason, reply_at, reply_fields_agree, HasReplyWidths};
 
 use crate::command::{CommandReason, Reply, short};
 use crate::field::{add, add_number16_if, add_octet, is_set, number16_if, octet, rest};
@@ -90,7 +91,7 @@ fn add_parts(out: &mut Octets, reply: &Reply) -> Option<()>
 }
 
 /// Adds the part before the key.
-#[tactic(auto, unfolding(crate::specs::Reply::reply_header_octets))]
+#[tactic(auto, unfolding(crate::specs::Inside::reply_header_octets))]
 fn add_header(out: &mut Octets, reply: &Reply) -> Option<()>
     ensures added { Adds (reply_header_octets reply.now) out.old out.new result }
     ensures pan { OnSome result (IfSome reply.now.pan (λ n. n < 2 ^ 16)) }

@@ -1,9 +1,10 @@
 //! Attribute reports.
 
 ghost use Rattle.std.specs.Prelude.{◌≡◌, ◌<◌, ◌≤◌, ◌^◌, ◌↔◌, ◌∷◌, ◌++◌, length, IsTrue, OnSome};
-ghost use Rattle.gp_commands.specs.Report.{entries_reason, report_reason, report_at, EntryEnds, AreRecords};
+ghost use Rattle.gp_commands.specs.Inside.{Adds};
+ghost use Rattle.gp_commands.specs.Report.{entries_reason, report_reason, report_at, entry_reason, next_place, AreRecords};
 ghost use Rattle.std.specs.Int.{w16, to_le_bytes};
-ghost use Rattle.gp_commands.specs.Fields.{Adds, answer};
+ghost use Rattle.gp_commands.specs.Fields.{answer};
 
 use crate::command::{CommandReason, GpdCommand, short};
 use crate::field::{add, add_number16, add_octet, number16, octet_or_zero, rest};
@@ -50,7 +51,7 @@ pub(crate) fn first_bad_entry(octets: &[u8], start: usize) -> Option<CommandReas
 fn entry_end(octets: &[u8], place: usize) -> Result<usize, CommandReason>
     requires within { place < length octets.now }
     requires room { length octets.now ≤ 127 }
-    ensures { EntryEnds octets.now place result }
+    ensures { result ≡ answer (entry_reason octets.now place) (next_place octets.now place) }
 {
     if octets.len() - place < 3 {
         return Err(short(octets));

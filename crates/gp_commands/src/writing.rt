@@ -2,7 +2,7 @@
 
 ghost use Rattle.std.specs.Prelude.{◌≡◌, ◌∷◌, ◌<◌, ◌≤◌, ◌↔◌, length, IsTrue, OnSome, MatchOption};
 ghost use Rattle.std.specs.Bool.{OnTrue};
-ghost use Rattle.gp_commands.specs.Fields.{Adds};
+ghost use Rattle.gp_commands.specs.Inside.{Adds};
 ghost use Rattle.gp_commands.specs.Command.{Command, IsSound, spelling, HasForm, HasWidths};
 
 use crate::command::GpdCommand;

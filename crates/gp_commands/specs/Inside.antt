@@ -1,0 +1,85 @@
+-- What private functions say: steps of a walk, and octets in the parts that the code adds. No public clause cites
+-- this file.
+use Rattle.std.specs.Prelude.{◌≡◌, ℕ, ◌+◌, ◌<◌, ◌≤◌, ◌^◌, List, [], ◌∷◌, ◌++◌, length, Option, IfSome}
+use Rattle.std.specs.Option.{MatchOption}
+use Rattle.std.specs.Int.{w16, w32, to_le_bytes}
+use Rattle.gp_base.specs.Walk.{Walk}
+use Rattle.gp_base.specs.Field.{has_bit, optional}
+use Rattle.gp_commands.specs.declared.command.Commissioning.{Commissioning}
+use Rattle.gp_commands.specs.declared.command.Reply.{Reply}
+use Rattle.gp_commands.specs.declared.commissioning.Header.{Header}
+use Rattle.gp_commands.specs.declared.keying.Keying.{Keying}
+use Rattle.gp_commands.specs.Fields.{octet, key_octets, counted, joined, octet_at, value_if}
+
+-- ---- a step of a walk
+
+-- The walk has taken so many octets.
+pub record Took (size : ℕ) (old new : Walk) : Type 0 where
+  pub octets : new.octets ≡ old.octets
+  pub place : new.place ≡ old.place + size
+  pub within : old.place + size ≤ length old.octets
+
+-- The field of so many octets was taken; or an octet of it is missing.
+abbrev pub Takes : {X : Type 0} → ℕ → X → Walk → Walk → Option X → Type 0
+Takes size field old new taken =
+    MatchOption taken (length old.octets < old.place + size) (λ x. (x ≡ field) × Took size old new)
+
+-- What stands up to this place was taken; or an octet of it is missing.
+abbrev pub TakesTo : {X : Type 0} → ℕ → X → Walk → Walk → Option X → Type 0
+TakesTo end part old new taken =
+    MatchOption taken (length old.octets < end)
+    (λ x. (x ≡ part) × (new.octets ≡ old.octets) × (new.place ≡ end) × (end ≤ length old.octets))
+
+-- The walk stands in the octets, or at their end.
+abbrev pub IsWithin : Walk → Type 0
+IsWithin walk = walk.place ≤ length walk.octets
+
+-- The part was added at the end; or there was no room for it.
+abbrev pub Adds : List ℕ → List ℕ → List ℕ → Option (Unit {0}) → Type 0
+Adds part old new added = MatchOption added (127 < length old + length part) (λ _. new ≡ old ++ part)
+
+-- ---- key, MIC and counter
+
+-- the octets of the three
+unfoldable pub keying_octets : Keying → List ℕ
+keying_octets keying = optional key_octets keying.key ++ (optional (λ mic. mic) keying.mic ++ optional (to_le_bytes w32) keying.counter)
+
+-- The key has 16 octets and the MIC 4, and the counter fits four octets.
+pub record HasKeyingWidths (keying : Keying) : Type 0 where
+  pub key : IfSome keying.key (λ key. length (key_octets key) ≡ 16)
+  pub mic : IfSome keying.mic (λ mic. length mic ≡ 4)
+  pub counter : IfSome keying.counter (λ n. n < 2 ^ 32)
+
+-- ---- a Commissioning
+
+-- the part before the key
+unfoldable pub header_octets : Commissioning → List ℕ
+header_octets c = joined (octet c.device ∷ octet c.options ∷ optional octet c.extended ∷ [])
+
+unfoldable pub application_octets : Commissioning → List ℕ
+application_octets c =
+    joined
+    (optional octet c.application
+    ∷ optional (to_le_bytes w16) c.manufacturer
+    ∷ optional (to_le_bytes w16) c.model
+    ∷ optional counted c.commands
+    ∷ optional (λ clusters. clusters) c.clusters
+    ∷ [])
+
+abbrev pub commissioning_in_parts : Commissioning → List ℕ
+commissioning_in_parts c =
+    header_octets c
+    ++ (keying_octets (record { key = c.key; mic = c.key_mic; counter = c.counter }) ++ (application_octets c ++ c.rest))
+
+-- that part at its places
+abbrev pub header_at : List ℕ → Header
+header_at b = record { device = octet_at b 1; options = octet_at b 2; extended = value_if (has_bit (octet_at b 2) 128) (octet_at b 3) }
+
+-- ---- a Reply
+
+-- the part before the key
+unfoldable pub reply_header_octets : Reply → List ℕ
+reply_header_octets r = joined (octet r.options ∷ optional (to_le_bytes w16) r.pan ∷ [])
+
+abbrev pub reply_in_parts : Reply → List ℕ
+reply_in_parts r = reply_header_octets r ++ (keying_octets (record { key = r.key; mic = r.key_mic; counter = r.counter }) ++ r.rest)
