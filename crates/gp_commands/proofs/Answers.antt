@@ -1,5 +1,5 @@
 -- A reason, or a value.
-use Rattle.std.proofs.Common.{◌≡◌, ℕ, zero, suc, Bool, true, false, cond, Option, Some, None, Result, Ok, Err, refl}
+use Rattle.std.proofs.Common.{◌≡◌, ℕ, zero, suc, Bool, true, false, cond, Option, Some, None, Ok, Err, refl}
 use Rattle.gp_commands.specs.Fields.{answer, agree}
 
 pub answer_ok : {X E : Type 0} (reason : Option E) (value found : X) → Ok found ≡ answer reason value → (reason ≡ None) × (found ≡ value)

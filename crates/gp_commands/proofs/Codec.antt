@@ -5,7 +5,6 @@ use Rattle.std.specs.Int.{w16, w32, from_le_bytes, to_le_bytes}
 use Rattle.std.proofs.lemmas.Bool.{cases_lt}
 use Rattle.std.proofs.lemmas.List.{take_at, drop_at, drop-drop, take-append-drop, length-take, get_or-drop, get_or-take, get_or_past}
 use Rattle.std.proofs.lemmas.Nat.{le_bytes_2, le_bytes_4, from_le_bytes-to_le_bytes_2, from_le_bytes-to_le_bytes_4}
-use Rattle.gp_base.specs.declared.identity.Key.{Key}
 use Rattle.gp_base.specs.Field.{IsOctets, four_at, optional, part, two_at}
 use Rattle.gp_commands.specs.Fields.{octet, key_octets, counted, octet_at, key_at, size_if, value_if}
 

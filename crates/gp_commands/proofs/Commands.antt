@@ -1,6 +1,6 @@
 -- Commands at their places, and spelled out.
-use Rattle.std.proofs.Common.{◌≡◌, ℕ, ◌+◌, ◌^◌, ◌<◌, ◌≤◌, Bool, true, false, leb, ltb, eqb, List, [], ◌∷◌, ◌++◌, length, drop, Option, Some, None, Result, Ok, Err, refl, sym, ap, subst, ◌∙◌, arith, length-drop}
-use Rattle.std.specs.Prelude.{IfSome, IfOk, IfErr}
+use Rattle.std.proofs.Common.{◌≡◌, ℕ, ◌<◌, ◌≤◌, false, leb, ltb, eqb, List, ◌∷◌, ◌++◌, length, drop, Some, None, Result, Ok, Err, refl, sym, ap, subst, ◌∙◌, arith}
+use Rattle.std.specs.Prelude.{IfOk, IfErr}
 use Rattle.std.specs.Int.{w16, to_le_bytes}
 use Rattle.std.proofs.lemmas.Bool.{ltb-false, le-ltb, eqb-false, ne_eqb}
 use Rattle.gp_commands.specs.declared.form.Form.{Form}
@@ -11,14 +11,14 @@ use Rattle.gp_commands.specs.declared.command.GpdCommand.TheVariants.{Plain, Mov
 use Rattle.gp_commands.specs.declared.command.CommandReason.{CommandReason}
 use Rattle.gp_commands.specs.declared.command.CommandReason.TheVariants.{Empty, Short}
 use Rattle.gp_base.specs.Field.{IsOctets, two_at}
-use Rattle.gp_commands.specs.Fields.{octet_at, answer}
+use Rattle.gp_commands.specs.Fields.{octet_at}
 use Rattle.gp_commands.specs.Forms.{form_of}
-use Rattle.gp_commands.specs.Report.{entries_reason, AreRecords}
+use Rattle.gp_commands.specs.Report.{entries_reason}
 use Rattle.gp_commands.specs.Commissioning.{commissioning, commissioning_at}
 use Rattle.gp_commands.specs.Reply.{reply, reply_at}
-use Rattle.gp_commands.specs.Command.{spelling, HasForm, HasWidths, Command, IsSound, ends_before, payload_reason, payload_at, first_reason, reading}
+use Rattle.gp_commands.specs.Command.{spelling, HasForm, HasWidths, Command, ends_before, payload_reason, payload_at, first_reason, reading}
 use Rattle.gp_commands.proofs.Answers.{answer_ok, answer_err, first_none}
-use Rattle.gp_commands.proofs.Codec.{At, IsCodec, number16_codec, split_octet}
+use Rattle.gp_commands.proofs.Codec.{number16_codec, split_octet}
 use Rattle.gp_commands.proofs.Commissioned.{fields_from, fields_tested, commissioning_found, commissioning_again}
 use Rattle.gp_commands.proofs.Entries.{records_from, no_reason}
 use Rattle.gp_commands.proofs.Identifiers.{is_report, is_commissioning, is_reply, is_request, is_config, report_form, commissioning_form, reply_form, request_form, config_form}
@@ -40,6 +40,7 @@ two_within : (b : List ℕ) → ends_before 2 b ≡ None → 2 ≤ length b
 two_within b h = ltb-false _ _ (first_none (ltb (length b) 2) (Short (length b)) None h).0
 
 found_as : (f : Form) (b : List ℕ) → IsOctets b → 0 < length b → form_of (octet_at b 0) ≡ f → payload_reason f b ≡ None → Spells (payload_at f b) b
+unfolding spelling
 found_as forms.Plain b bytes lt e h = record { parts = split_octet b 0 lt; form = e; widths = tt }
 found_as forms.Move b bytes lt e h =
     let found = move_found (leb 2 (length b)) b bytes lt refl in
@@ -84,6 +85,7 @@ found_as forms.ChannelConfig b bytes lt e h =
 found_as forms.Other b bytes lt e h = record { parts = split_octet b 0 lt; form = e; widths = tt }
 
 pub found : (b : List ℕ) → IsOctets b → length b ≤ 117 → first_reason b ≡ None → Command (payload_at (form_of (octet_at b 0)) b) b
+unfolding first_reason
 found b bytes room h =
     let tests = first_none (eqb (length b) 0) Empty _ h in
     let lt : 0 < length b = omega (arith, eqb-false (length b) 0 tests.0) in
@@ -105,6 +107,7 @@ pub record Reads (f : Form) (b : List ℕ) (c : GpdCommand) : Type 0 where
   pub filled : 0 < length b
 
 reads : (c : GpdCommand) → HasForm c → HasWidths c → (f : Form) × Reads f (spelling c) c
+unfolding spelling
 reads (Plain id rest) form widths = (forms.Plain, record { form = form; fine = refl; value = refl; filled = omega arith })
 reads (Move id rate rest) form widths = (forms.Move, record { form = form.0; fine = refl; value = move_again id rate rest form.1; filled = omega arith })
 reads (Step id size time rest) form widths = (forms.Step, record { form = form.0; fine = two_fine id size _; value = step_again id size time rest form.1 widths; filled = omega arith })
@@ -126,7 +129,7 @@ reads (ChannelConfig value rest) form widths = (forms.ChannelConfig, record { fo
 reads (Other id rest) form widths = (forms.Other, record { form = form; fine = refl; value = refl; filled = omega arith })
 
 reading_of : (f : Form) (b : List ℕ) (c : GpdCommand) → Reads f b c → reading b ≡ Ok c
-unfolding reading
+unfolding reading first_reason
 reading_of f b c r =
     let filled : eqb (length b) 0 ≡ false = ne_eqb (length b) 0 (λ e. omega (arith, r.filled)) in
     rw (filled, r.form, r.fine, r.value) refl

@@ -1,5 +1,5 @@
 -- The identifiers of the forms that have one.
-use Rattle.std.proofs.Common.{◌≡◌, ℕ, ◌<◌, Bool, true, false, eqb, refl, sym, ap, ◌∙◌}
+use Rattle.std.proofs.Common.{◌≡◌, ℕ, ◌<◌, true, eqb, refl, sym, ap, ◌∙◌}
 use Rattle.std.proofs.lemmas.Bool.{eqb-true, eq-eqb, agree_below, agree_below_at}
 use Rattle.gp_commands.specs.declared.form.Form.{Form}
 use Rattle.gp_commands.specs.declared.form.Form.TheVariants as forms

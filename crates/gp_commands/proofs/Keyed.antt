@@ -1,11 +1,11 @@
 -- Key, MIC and counter at places, and spelled out.
-use Rattle.std.proofs.Common.{◌≡◌, ℕ, ◌+◌, ◌^◌, ◌<◌, ◌≤◌, Bool, List, ◌++◌, length, drop, Option, refl, sym, ap, subst, ◌∙◌, append_assoc, arith}
+use Rattle.std.proofs.Common.{◌≡◌, ℕ, ◌+◌, ◌^◌, ◌<◌, ◌≤◌, List, ◌++◌, length, drop, refl, ap, subst, ◌∙◌, append_assoc, arith}
 use Rattle.std.specs.Int.{w32, to_le_bytes}
 use Rattle.gp_commands.specs.Inside.{keying_octets}
 use Rattle.gp_commands.specs.declared.keying.Keying.{Keying}
 use Rattle.gp_commands.specs.declared.keying.Wanted.{Wanted}
-use Rattle.gp_base.specs.Field.{IsOctets, four_at, optional, part}
-use Rattle.gp_commands.specs.Fields.{key_octets, key_at, size_if, value_if}
+use Rattle.gp_base.specs.Field.{IsOctets, four_at, optional}
+use Rattle.gp_commands.specs.Fields.{key_octets, size_if, value_if}
 use Rattle.gp_commands.specs.Keying.{keying_size, keying_at}
 use Rattle.gp_commands.proofs.Codec.{At, IsField, IsCodec, optional_codec, key_codec, octets_codec, number32_codec, join}
 

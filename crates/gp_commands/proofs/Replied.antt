@@ -1,6 +1,6 @@
 -- A Reply at its places, and spelled out.
-use Rattle.std.proofs.Common.{◌≡◌, ℕ, ◌+◌, ◌^◌, ◌<◌, ◌≤◌, Bool, true, false, cond, eqb, ltb, List, [], ◌∷◌, ◌++◌, length, drop, Option, Some, None, refl, sym, ap, subst, ◌∙◌, append_assoc, arith}
-use Rattle.std.specs.Prelude.{◌&&◌, ◌||◌, is_some, is_none}
+use Rattle.std.proofs.Common.{◌≡◌, ℕ, ◌^◌, ◌<◌, ◌≤◌, true, false, eqb, ltb, List, ◌++◌, length, drop, None, refl, sym, ap, subst, ◌∙◌, append_assoc, arith}
+use Rattle.std.specs.Prelude.{◌||◌, is_none}
 use Rattle.std.specs.Int.{w16, to_le_bytes}
 use Rattle.std.proofs.lemmas.Bool.{and_parts, and_from, ltb-false, le-ltb}
 use Rattle.gp_commands.specs.Inside.{keying_octets}
@@ -12,7 +12,7 @@ use Rattle.gp_commands.specs.Fields.{octet, octet_at}
 use Rattle.gp_commands.specs.Keying.{reserved}
 use Rattle.gp_commands.specs.Reply.{reply_level, reply_key_kind, reply_wanted, reply, reply_fields_agree, HasReplyWidths, reply_keying_place, reply_rest_place, reply_reason, reply_at}
 use Rattle.gp_commands.proofs.Answers.{first_none, agree_is, agree_same}
-use Rattle.gp_commands.proofs.Codec.{At, IsField, IsCodec, optional_codec, octet_codec, number16_codec, join}
+use Rattle.gp_commands.proofs.Codec.{At, IsField, optional_codec, octet_codec, number16_codec, join}
 use Rattle.gp_commands.proofs.Commissioned.{none_of_test, not_reserved, free_tests}
 use Rattle.gp_commands.proofs.Keyed.{HasKeying, keying_codec}
 

@@ -1,6 +1,6 @@
 -- A device command and its octets: an identifier, the fields that are there in order, and the rest
 -- (Zigbee PRO Green Power, A.4.1 and A.4.2).
-use Rattle.std.specs.Prelude.{◌≡◌, ℕ, ◌<◌, ◌≤◌, ◌^◌, ◌==◌, nat_lt, List, [], ◌∷◌, ◌++◌, length, drop, Option, Some, None, Result, Ok, Err, IfSome, IsTrue, if◌then◌else◌}
+use Rattle.std.specs.Prelude.{◌≡◌, ℕ, ◌<◌, ◌≤◌, ◌^◌, ◌==◌, nat_lt, List, ◌∷◌, ◌++◌, length, drop, Option, Some, None, Result, IfSome, IsTrue, if◌then◌else◌}
 use Rattle.std.specs.Int.{w16, to_le_bytes}
 use Rattle.gp_commands.specs.declared.form.Form.{Form}
 use Rattle.gp_commands.specs.declared.form.Form.TheVariants as forms
@@ -20,7 +20,7 @@ use Rattle.gp_commands.specs.Reply.{reply, reply_fields_agree, HasReplyWidths, r
 -- ---- what a command is
 
 -- its octets
-abbrev pub spelling : GpdCommand → List ℕ
+unfoldable pub spelling : GpdCommand → List ℕ
 spelling (Plain id rest) = id ∷ rest
 spelling (Move id rate rest) = id ∷ (optional octet rate ++ rest)
 spelling (Step id size time rest) = id ∷ size ∷ (optional (to_le_bytes w16) time ++ rest)
@@ -60,7 +60,8 @@ pub record Command (c : GpdCommand) (b : List ℕ) : Type 0 where
   pub widths : HasWidths c
   pub room : length b ≤ 117
 
--- Some octets spell the command.
+-- Some octets spell the command. Each of them is below 256 where the command is a value of the program, whose fields
+-- are octets and numbers of so many octets.
 pub record IsSound (c : GpdCommand) : Type 0 where
   pub octets : List ℕ
   pub spell : Command c octets
@@ -98,7 +99,7 @@ payload_at forms.ChannelConfig b = ChannelConfig (octet_at b 1) (drop 2 b)
 payload_at forms.Other b = Other (octet_at b 0) (drop 1 b)
 
 -- the first fault from the left
-abbrev pub first_reason : List ℕ → Option CommandReason
+unfoldable pub first_reason : List ℕ → Option CommandReason
 first_reason b = if length b == 0 then Some Empty else payload_reason (form_of (octet_at b 0)) b
 
 -- what octets read as

@@ -1,6 +1,5 @@
 -- Level control (Zigbee PRO Green Power, A.4.2.1: Move and Step).
 use Rattle.std.specs.Prelude.{◌≡◌, ℕ, ◌+◌, ◌≤◌, nat_le, List, [], length, drop, Option, IfNone}
-use Rattle.gp_base.specs.declared.identity.Key.{Key}
 use Rattle.gp_commands.specs.declared.command.GpdCommand.{GpdCommand}
 use Rattle.gp_commands.specs.declared.command.GpdCommand.TheVariants.{Move, Step}
 use Rattle.gp_base.specs.Field.{two_at}

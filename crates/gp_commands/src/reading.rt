@@ -1,4 +1,4 @@
-//! Commands are read and written.
+//! Octets are read as a command.
 
 ghost use Rattle.std.specs.Prelude.{◌≡◌, ◌≤◌, length, drop, IfOk, IfErr, Some, Ok, Err};
 ghost use Rattle.gp_commands.specs.declared.command.GpdCommand.{GpdCommand};
@@ -49,7 +49,7 @@ fn read_single(octets: &[u8], reader: &mut Reader) -> Result<(u8, Octets), Comma
 }
 
 /// Reads a command by its places.
-#[tactic(auto, unfolding(crate::specs::Command::reading, crate::specs::Forms::form_of))]
+#[tactic(auto, unfolding(crate::specs::Command::reading, crate::specs::Command::first_reason))]
 fn read_all(octets: &[u8]) -> Result<GpdCommand, CommandReason>
     requires { length octets.now ≤ 117 }
     ensures { result ≡ reading octets.now }

@@ -76,6 +76,7 @@ pub(crate) fn spell(command: &GpdCommand) -> Option<Octets>
 }
 
 /// Adds a command.
+#[tactic(auto, unfolding(crate::specs::Command::spelling))]
 fn add_command(out: &mut Octets, command: &GpdCommand) -> Option<()>
     ensures added { Adds (spelling command.now) out.old out.new result }
     ensures widths { OnSome result (HasWidths command.now) }
