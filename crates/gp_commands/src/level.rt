@@ -20,11 +20,8 @@ pub(crate) fn read_move(id: u8, reader: &mut Reader) -> GpdCommand
     ensures { result ≡ move_at reader.old.octets }
 {
     let rate = octet(reader);
-    GpdCommand::Move {
-        id,
-        rate,
-        rest: rest(reader),
-    }
+    let rest = rest(reader);
+    GpdCommand::Move { id, rate, rest }
 }
 
 /// Reads a Step after its identifier, `None` where its size is missing. The time is there where two octets are
@@ -37,11 +34,12 @@ pub(crate) fn read_step(id: u8, reader: &mut Reader) -> Option<GpdCommand>
 {
     let size = octet(reader)?;
     let time = number16(reader);
+    let rest = rest(reader);
     Some(GpdCommand::Step {
         id,
         size,
         time,
-        rest: rest(reader),
+        rest,
     })
 }
 
