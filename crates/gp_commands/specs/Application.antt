@@ -14,44 +14,44 @@ abbrev pub clusters_agree : Option (List ℕ) → Bool
 clusters_agree None = true
 clusters_agree (Some clusters) = length clusters == 1 + clusters_size (octet_at clusters 0)
 
--- The places of its fields, where its first octet would stand at a place, and is there by has_bit of 4 the options.
+-- The places of its fields, where its first octet would stand at a place, and is there by bit 2 of the options.
 -- What a field's flags and counts say is read at its place; a missing octet counts as 0.
 
 -- the octet with the flags, 0 where it is absent
 abbrev pub flags_at : ℕ → List ℕ → ℕ → ℕ
-flags_at options b place = if has_bit options 4 then octet_at b place else 0
+flags_at options octets place = if has_bit options 4 then octet_at octets place else 0
 
 abbrev pub manufacturer_place : ℕ → ℕ → ℕ
 manufacturer_place options place = place + size_if (has_bit options 4) 1
 
 abbrev pub model_place : ℕ → List ℕ → ℕ → ℕ
-model_place options b place = manufacturer_place options place + size_if (has_bit (flags_at options b place) 1) 2
+model_place options octets place = manufacturer_place options place + size_if (has_bit (flags_at options octets place) 1) 2
 
 abbrev pub commands_place : ℕ → List ℕ → ℕ → ℕ
-commands_place options b place = model_place options b place + size_if (has_bit (flags_at options b place) 2) 2
+commands_place options octets place = model_place options octets place + size_if (has_bit (flags_at options octets place) 2) 2
 
 -- behind the list of commands, which stands behind its count
 abbrev pub clusters_place : ℕ → List ℕ → ℕ → ℕ
-clusters_place options b place =
-    let here = commands_place options b place in
-    here + size_if (has_bit (flags_at options b place) 4) (1 + octet_at b here)
+clusters_place options octets place =
+    let here = commands_place options octets place in
+    here + size_if (has_bit (flags_at options octets place) 4) (1 + octet_at octets here)
 
 -- behind it all
 unfoldable pub application_end : ℕ → List ℕ → ℕ → ℕ
-application_end options b place =
-    let here = clusters_place options b place in
-    here + size_if (has_bit (flags_at options b place) 8) (1 + clusters_size (octet_at b here))
+application_end options octets place =
+    let here = clusters_place options octets place in
+    here + size_if (has_bit (flags_at options octets place) 8) (1 + clusters_size (octet_at octets here))
 
 -- what stands there
 unfoldable pub application_at : ℕ → List ℕ → ℕ → Application
-application_at options b place =
-    let flags = flags_at options b place in
-    let commands = commands_place options b place in
-    let clusters = clusters_place options b place in
+application_at options octets place =
+    let flags = flags_at options octets place in
+    let commands = commands_place options octets place in
+    let clusters = clusters_place options octets place in
     record {
-      information = value_if (has_bit options 4) (octet_at b place);
-      manufacturer = value_if (has_bit flags 1) (two_at b (manufacturer_place options place));
-      model = value_if (has_bit flags 2) (two_at b (model_place options b place));
-      commands = value_if (has_bit flags 4) (part b (commands + 1) (octet_at b commands));
-      clusters = value_if (has_bit flags 8) (part b clusters (1 + clusters_size (octet_at b clusters)));
+      information = value_if (has_bit options 4) (octet_at octets place);
+      manufacturer = value_if (has_bit flags 1) (two_at octets (manufacturer_place options place));
+      model = value_if (has_bit flags 2) (two_at octets (model_place options octets place));
+      commands = value_if (has_bit flags 4) (part octets (commands + 1) (octet_at octets commands));
+      clusters = value_if (has_bit flags 8) (part octets clusters (1 + clusters_size (octet_at octets clusters)));
     }

@@ -54,11 +54,11 @@ HasWidths (Reply r) = HasReplyWidths r
 HasWidths _ = Unit {0}
 
 -- The octets, at most 117 of them, spell the command.
-pub record Command (c : GpdCommand) (b : List ℕ) : Type 0 where
-  pub parts : b ≡ spelling c
+pub record Command (c : GpdCommand) (octets : List ℕ) : Type 0 where
+  pub parts : octets ≡ spelling c
   pub form : HasForm c
   pub widths : HasWidths c
-  pub room : length b ≤ 117
+  pub room : length octets ≤ 117
 
 -- Some octets spell the command. Each of them is below 256 where the command is a value of the program, whose fields
 -- are octets and numbers of so many octets.
@@ -70,38 +70,38 @@ pub record IsSound (c : GpdCommand) : Type 0 where
 
 -- the fault of octets that are fewer than so many
 abbrev pub ends_before : ℕ → List ℕ → Option CommandReason
-ends_before count b = if nat_lt (length b) count then Some (Short (length b)) else None
+ends_before count octets = if nat_lt (length octets) count then Some (Short (length octets)) else None
 
 -- the first fault of a payload of a form
 abbrev pub payload_reason : Form → List ℕ → Option CommandReason
-payload_reason forms.Plain b = None
-payload_reason forms.Move b = None
-payload_reason forms.Step b = ends_before 2 b
-payload_reason forms.Vector b = ends_before 2 b
-payload_reason forms.Report b = report_reason b
-payload_reason forms.Commissioning b = commissioning_reason b
-payload_reason forms.Reply b = reply_reason b
-payload_reason forms.ChannelRequest b = ends_before 2 b
-payload_reason forms.ChannelConfig b = ends_before 2 b
-payload_reason forms.Other b = None
+payload_reason forms.Plain octets = None
+payload_reason forms.Move octets = None
+payload_reason forms.Step octets = ends_before 2 octets
+payload_reason forms.Vector octets = ends_before 2 octets
+payload_reason forms.Report octets = report_reason octets
+payload_reason forms.Commissioning octets = commissioning_reason octets
+payload_reason forms.Reply octets = reply_reason octets
+payload_reason forms.ChannelRequest octets = ends_before 2 octets
+payload_reason forms.ChannelConfig octets = ends_before 2 octets
+payload_reason forms.Other octets = None
 
 -- what a payload of a form reads as
 abbrev pub payload_at : Form → List ℕ → GpdCommand
-payload_at forms.Plain b = Plain (octet_at b 0) (drop 1 b)
-payload_at forms.Move b = move_at b
-payload_at forms.Step b = step_at b
-payload_at forms.Vector b = Vector (octet_at b 0) (octet_at b 1) (drop 2 b)
-payload_at forms.Report b = report_at b
-payload_at forms.Commissioning b = Commissioning (commissioning_at b)
-payload_at forms.Reply b = Reply (reply_at b)
-payload_at forms.ChannelRequest b = ChannelRequest (octet_at b 1) (drop 2 b)
-payload_at forms.ChannelConfig b = ChannelConfig (octet_at b 1) (drop 2 b)
-payload_at forms.Other b = Other (octet_at b 0) (drop 1 b)
+payload_at forms.Plain octets = Plain (octet_at octets 0) (drop 1 octets)
+payload_at forms.Move octets = move_at octets
+payload_at forms.Step octets = step_at octets
+payload_at forms.Vector octets = Vector (octet_at octets 0) (octet_at octets 1) (drop 2 octets)
+payload_at forms.Report octets = report_at octets
+payload_at forms.Commissioning octets = Commissioning (commissioning_at octets)
+payload_at forms.Reply octets = Reply (reply_at octets)
+payload_at forms.ChannelRequest octets = ChannelRequest (octet_at octets 1) (drop 2 octets)
+payload_at forms.ChannelConfig octets = ChannelConfig (octet_at octets 1) (drop 2 octets)
+payload_at forms.Other octets = Other (octet_at octets 0) (drop 1 octets)
 
 -- the first fault from the left
 unfoldable pub first_reason : List ℕ → Option CommandReason
-first_reason b = if length b == 0 then Some Empty else payload_reason (form_of (octet_at b 0)) b
+first_reason octets = if length octets == 0 then Some Empty else payload_reason (form_of (octet_at octets 0)) octets
 
 -- what octets read as
 unfoldable pub reading : List ℕ → Result GpdCommand CommandReason
-reading b = answer (first_reason b) (payload_at (form_of (octet_at b 0)) b)
+reading octets = answer (first_reason octets) (payload_at (form_of (octet_at octets 0)) octets)

@@ -82,39 +82,39 @@ pub record HasCommissioningWidths (c : Commissioning) : Type 0 where
 
 -- the octet with the level and the kind of key, 0 where it is absent
 abbrev pub extended_at : List ℕ → ℕ
-extended_at b = if has_bit (octet_at b 2) 128 then octet_at b 3 else 0
+extended_at octets = if has_bit (octet_at octets 2) 128 then octet_at octets 3 else 0
 
 -- where the key would stand
 abbrev pub keying_place : List ℕ → ℕ
-keying_place b = 3 + size_if (has_bit (octet_at b 2) 128) 1
+keying_place octets = 3 + size_if (has_bit (octet_at octets 2) 128) 1
 
 -- where the application information would stand
 abbrev pub application_place : List ℕ → ℕ
-application_place b = keying_place b + keying_size (wanted_by (extended_at b))
+application_place octets = keying_place octets + keying_size (wanted_by (extended_at octets))
 
 -- where the rest begins
 abbrev pub rest_place : List ℕ → ℕ
-rest_place b = application_end (octet_at b 2) b (application_place b)
+rest_place octets = application_end (octet_at octets 2) octets (application_place octets)
 
 -- the first fault of a Commissioning
 abbrev pub commissioning_reason : List ℕ → Option CommandReason
-commissioning_reason b =
+commissioning_reason octets =
     first_of
-    ((nat_lt (length b) (keying_place b), Short (length b))
-    ∷ (level (extended_at b) == 1, ReservedLevel)
-    ∷ ((key_kind (extended_at b) == 5) || (key_kind (extended_at b) == 6), ReservedKeyKind)
-    ∷ (nat_lt (length b) (rest_place b), Short (length b))
+    ((nat_lt (length octets) (keying_place octets), Short (length octets))
+    ∷ (level (extended_at octets) == 1, ReservedLevel)
+    ∷ ((key_kind (extended_at octets) == 5) || (key_kind (extended_at octets) == 6), ReservedKeyKind)
+    ∷ (nat_lt (length octets) (rest_place octets), Short (length octets))
     ∷ [])
 
 -- what stands at the places
 abbrev pub commissioning_at : List ℕ → Commissioning
-commissioning_at b =
-    let keying = keying_at (wanted_by (extended_at b)) b (keying_place b) in
-    let application = application_at (octet_at b 2) b (application_place b) in
+commissioning_at octets =
+    let keying = keying_at (wanted_by (extended_at octets)) octets (keying_place octets) in
+    let application = application_at (octet_at octets 2) octets (application_place octets) in
     record {
-      device = octet_at b 1;
-      options = octet_at b 2;
-      extended = value_if (has_bit (octet_at b 2) 128) (octet_at b 3);
+      device = octet_at octets 1;
+      options = octet_at octets 2;
+      extended = value_if (has_bit (octet_at octets 2) 128) (octet_at octets 3);
       key = keying.key;
       key_mic = keying.mic;
       counter = keying.counter;
@@ -123,5 +123,5 @@ commissioning_at b =
       model = application.model;
       commands = application.commands;
       clusters = application.clusters;
-      rest = drop (rest_place b) b;
+      rest = drop (rest_place octets) octets;
     }

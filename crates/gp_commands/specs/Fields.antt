@@ -6,8 +6,8 @@ use Rattle.gp_base.specs.declared.identity.Key.{Key}
 
 -- two answers are the same
 abbrev pub agree : Bool → Bool → Bool
-agree true b = b
-agree false b = not b
+agree true second = second
+agree false second = not second
 
 -- ---- spelled out
 
@@ -33,11 +33,11 @@ joined (first ∷ next ∷ parts) = first ++ joined (next ∷ parts)
 
 -- the octet at a place; a missing one counts as 0
 abbrev pub octet_at : List ℕ → ℕ → ℕ
-octet_at b place = slice_index b place
+octet_at octets place = slice_index octets place
 
 -- the key at a place
 abbrev pub key_at : List ℕ → ℕ → Key
-key_at b place = record { 0 = part b place 16 }
+key_at octets place = record { 0 = part octets place 16 }
 
 -- how many octets a field takes that is there or not
 abbrev pub size_if : Bool → ℕ → ℕ

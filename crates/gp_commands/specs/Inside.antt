@@ -73,7 +73,7 @@ commissioning_in_parts c =
 
 -- that part at its places
 abbrev pub header_at : List ℕ → Header
-header_at b = record { device = octet_at b 1; options = octet_at b 2; extended = value_if (has_bit (octet_at b 2) 128) (octet_at b 3) }
+header_at octets = record { device = octet_at octets 1; options = octet_at octets 2; extended = value_if (has_bit (octet_at octets 2) 128) (octet_at octets 3) }
 
 -- ---- a Reply
 

@@ -19,8 +19,8 @@ keying_size wanted = size_if wanted.key 16 + size_if wanted.mic 4 + size_if want
 
 -- what stands from a place on
 unfoldable pub keying_at : Wanted → List ℕ → ℕ → Keying
-keying_at wanted b place = record {
-  key = value_if wanted.key (key_at b place);
-  mic = value_if wanted.mic (part b (place + size_if wanted.key 16) 4);
-  counter = value_if wanted.counter (four_at b (place + size_if wanted.key 16 + size_if wanted.mic 4));
+keying_at wanted octets place = record {
+  key = value_if wanted.key (key_at octets place);
+  mic = value_if wanted.mic (part octets (place + size_if wanted.key 16) 4);
+  counter = value_if wanted.counter (four_at octets (place + size_if wanted.key 16 + size_if wanted.mic 4));
 }

@@ -15,10 +15,10 @@ HasStepRest time rest = IfNone time (length rest ≤ 1)
 
 -- Move: the rate is there where an octet is left
 abbrev pub move_at : List ℕ → GpdCommand
-move_at b = Move (octet_at b 0) (value_if (nat_le 2 (length b)) (octet_at b 1)) (drop (1 + size_if (nat_le 2 (length b)) 1) b)
+move_at octets = Move (octet_at octets 0) (value_if (nat_le 2 (length octets)) (octet_at octets 1)) (drop (1 + size_if (nat_le 2 (length octets)) 1) octets)
 
 -- Step: the time is there where two octets are left after the size
 abbrev pub step_at : List ℕ → GpdCommand
-step_at b =
-    Step (octet_at b 0) (octet_at b 1) (value_if (nat_le 4 (length b)) (two_at b 2))
-    (drop (2 + size_if (nat_le 4 (length b)) 2) b)
+step_at octets =
+    Step (octet_at octets 0) (octet_at octets 1) (value_if (nat_le 4 (length octets)) (two_at octets 2))
+    (drop (2 + size_if (nat_le 4 (length octets)) 2) octets)

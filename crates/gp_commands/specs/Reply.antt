@@ -59,31 +59,31 @@ pub record HasReplyWidths (r : Reply) : Type 0 where
 
 -- where the key would stand
 abbrev pub reply_keying_place : List ℕ → ℕ
-reply_keying_place b = 2 + size_if (has_bit (octet_at b 1) 1) 2
+reply_keying_place octets = 2 + size_if (has_bit (octet_at octets 1) 1) 2
 
 -- where the rest begins
 abbrev pub reply_rest_place : List ℕ → ℕ
-reply_rest_place b = reply_keying_place b + keying_size (reply_wanted (octet_at b 1))
+reply_rest_place octets = reply_keying_place octets + keying_size (reply_wanted (octet_at octets 1))
 
 -- the first fault of a Reply
 abbrev pub reply_reason : List ℕ → Option CommandReason
-reply_reason b =
+reply_reason octets =
     first_of
-    ((nat_lt (length b) 2, Short (length b))
-    ∷ (reply_level (octet_at b 1) == 1, ReservedLevel)
-    ∷ ((reply_key_kind (octet_at b 1) == 5) || (reply_key_kind (octet_at b 1) == 6), ReservedKeyKind)
-    ∷ (nat_lt (length b) (reply_rest_place b), Short (length b))
+    ((nat_lt (length octets) 2, Short (length octets))
+    ∷ (reply_level (octet_at octets 1) == 1, ReservedLevel)
+    ∷ ((reply_key_kind (octet_at octets 1) == 5) || (reply_key_kind (octet_at octets 1) == 6), ReservedKeyKind)
+    ∷ (nat_lt (length octets) (reply_rest_place octets), Short (length octets))
     ∷ [])
 
 -- what stands at the places
 abbrev pub reply_at : List ℕ → Reply
-reply_at b =
-    let keying = keying_at (reply_wanted (octet_at b 1)) b (reply_keying_place b) in
+reply_at octets =
+    let keying = keying_at (reply_wanted (octet_at octets 1)) octets (reply_keying_place octets) in
     record {
-      options = octet_at b 1;
-      pan = value_if (has_bit (octet_at b 1) 1) (two_at b 2);
+      options = octet_at octets 1;
+      pan = value_if (has_bit (octet_at octets 1) 1) (two_at octets 2);
       key = keying.key;
       key_mic = keying.mic;
       counter = keying.counter;
-      rest = drop (reply_rest_place b) b;
+      rest = drop (reply_rest_place octets) octets;
     }

@@ -37,31 +37,32 @@ pub record AreRecords (records : List ℕ) : Type 0 where
 
 -- the size of the value of an entry that begins at a place
 abbrev pub value_size_at : List ℕ → ℕ → Option ℕ
-value_size_at b place = value_size (octet_at b (place + 2)) (octet_at b (place + 3))
+value_size_at octets place = value_size (octet_at octets (place + 2)) (octet_at octets (place + 3))
 
 -- where the next entry begins
 abbrev pub next_place : List ℕ → ℕ → ℕ
-next_place b place = place + 3 + unwrap_or (value_size_at b place) 0
+next_place octets place = place + 3 + unwrap_or (value_size_at octets place) 0
 
 -- the first fault of the entry that begins at a place
 abbrev pub entry_reason : List ℕ → ℕ → Option CommandReason
-entry_reason b place =
+entry_reason octets place =
     first_of
-    ((nat_lt (length b) (place + 3), Short (length b))
-    ∷ (is_none (value_size_at b place), ValueKind (place + 2))
-    ∷ (nat_lt (length b) (next_place b place), Short (length b))
+    ((nat_lt (length octets) (place + 3), Short (length octets))
+    ∷ (is_none (value_size_at octets place), ValueKind (place + 2))
+    ∷ (nat_lt (length octets) (next_place octets place), Short (length octets))
     ∷ [])
 
--- what is wrong with the entry that begins at a place, or with those after it, of which so many are looked at
+-- the first fault of the entries from a place on. So many of them are looked at, and octets hold fewer entries than
+-- octets.
 unfoldable pub entries_reason : ℕ → List ℕ → ℕ → Option CommandReason
-entries_reason zero b place = None
-entries_reason (suc more) b place =
-    if length b == place then None
-    else or_else (entry_reason b place) (entries_reason more b (next_place b place))
+entries_reason zero octets place = None
+entries_reason (suc more) octets place =
+    if length octets == place then None
+    else or_else (entry_reason octets place) (entries_reason more octets (next_place octets place))
 
 -- the first fault of a report: its cluster, and its entries from octet 3 on
 abbrev pub report_reason : List ℕ → Option CommandReason
-report_reason b = if nat_lt (length b) 3 then Some (Short (length b)) else entries_reason (length b) b 3
+report_reason octets = if nat_lt (length octets) 3 then Some (Short (length octets)) else entries_reason (length octets) octets 3
 
 abbrev pub report_at : List ℕ → GpdCommand
-report_at b = commands.Report (two_at b 1) (drop 3 b)
+report_at octets = commands.Report (two_at octets 1) (drop 3 octets)
