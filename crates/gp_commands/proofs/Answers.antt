@@ -1,6 +1,7 @@
 -- A reason, or a value.
 use Rattle.std.proofs.Common.{◌≡◌, ℕ, zero, suc, Bool, true, false, cond, Option, Some, None, Ok, Err, refl}
-use Rattle.gp_commands.specs.Fields.{answer, agree}
+use Rattle.gp_base.specs.Field.{agree}
+use Rattle.gp_base.specs.Table.{answer}
 
 pub answer_ok : {X E : Type 0} (reason : Option E) (value found : X) → Ok found ≡ answer reason value → (reason ≡ None) × (found ≡ value)
 answer_ok None value found e = (refl, cc)

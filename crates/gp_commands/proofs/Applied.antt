@@ -3,10 +3,9 @@ use Rattle.std.proofs.Common.{◌≡◌, ℕ, ◌+◌, ◌^◌, ◌<◌, ◌≤�
 use Rattle.std.specs.Prelude.{unwrap_or, if◌then◌else◌}
 use Rattle.std.specs.Int.{w16, to_le_bytes}
 use Rattle.gp_commands.specs.declared.application.Application.{Application}
-use Rattle.gp_base.specs.Field.{IsOctets, has_bit, optional, two_at}
-use Rattle.gp_commands.specs.Fields.{octet, counted, joined, octet_at, value_if}
+use Rattle.gp_base.specs.Field.{IsOctets, has_bit, optional, two_at, octet, counted, joined, octet_at, value_if}
 use Rattle.gp_commands.specs.Application.{clusters_size, flags_at, manufacturer_place, model_place, commands_place, clusters_place, application_end, application_at}
-use Rattle.gp_commands.proofs.Codec.{At, IsField, optional_codec, octet_codec, number16_codec, counted_codec, led_codec, join}
+use Rattle.gp_base.proofs.Codec.{At, IsField, optional_codec, octet_codec, number16_codec, counted_codec, led_codec, join}
 
 -- its octets
 unfoldable pub information_octets : Application → List ℕ

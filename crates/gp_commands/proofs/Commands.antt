@@ -10,15 +10,14 @@ use Rattle.gp_commands.specs.declared.command.GpdCommand.{GpdCommand}
 use Rattle.gp_commands.specs.declared.command.GpdCommand.TheVariants.{Plain, Move, Step, Vector, Report, Commissioning, Reply, ChannelRequest, ChannelConfig, Other}
 use Rattle.gp_commands.specs.declared.command.CommandReason.{CommandReason}
 use Rattle.gp_commands.specs.declared.command.CommandReason.TheVariants.{Empty, Short}
-use Rattle.gp_base.specs.Field.{IsOctets, two_at}
-use Rattle.gp_commands.specs.Fields.{octet_at}
+use Rattle.gp_base.specs.Field.{IsOctets, two_at, octet_at}
 use Rattle.gp_commands.specs.Forms.{form_of}
 use Rattle.gp_commands.specs.Report.{entries_reason}
 use Rattle.gp_commands.specs.Commissioning.{commissioning, commissioning_at}
 use Rattle.gp_commands.specs.Reply.{reply, reply_at}
 use Rattle.gp_commands.specs.Command.{spelling, HasForm, HasWidths, Command, ends_before, payload_reason, payload_at, first_reason, reading}
 use Rattle.gp_commands.proofs.Answers.{answer_ok, answer_err, first_none}
-use Rattle.gp_commands.proofs.Codec.{number16_codec, split_octet}
+use Rattle.gp_base.proofs.Codec.{number16_codec, split_octet}
 use Rattle.gp_commands.proofs.Commissioned.{fields_from, fields_tested, commissioning_found, commissioning_again}
 use Rattle.gp_commands.proofs.Entries.{records_from, no_reason}
 use Rattle.gp_commands.proofs.Identifiers.{is_report, is_commissioning, is_reply, is_request, is_config, report_form, commissioning_form, reply_form, request_form, config_form}

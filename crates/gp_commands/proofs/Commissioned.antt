@@ -2,19 +2,18 @@
 use Rattle.std.proofs.Common.{◌≡◌, ℕ, ◌+◌, ◌≤◌, Bool, true, false, eqb, ltb, List, ◌++◌, length, drop, Option, Some, None, refl, sym, ap, subst, ◌∙◌, append_assoc, arith}
 use Rattle.std.specs.Prelude.{◌||◌, is_none, IfSome, unwrap_or}
 use Rattle.std.proofs.lemmas.Bool.{and_parts, and_from, ltb-false, le-ltb, eqb-true, eq-eqb}
+use Rattle.gp_base.specs.Field.{IsOctets, has_bit, optional, octet, octet_at}
 use Rattle.gp_commands.specs.Inside.{keying_octets}
 use Rattle.gp_commands.specs.declared.application.Application.{Application}
 use Rattle.gp_commands.specs.declared.command.Commissioning.{Commissioning}
 use Rattle.gp_commands.specs.declared.command.CommandReason.TheVariants.{Short, ReservedLevel, ReservedKeyKind}
 use Rattle.gp_commands.specs.declared.keying.Keying.{Keying}
-use Rattle.gp_base.specs.Field.{IsOctets, has_bit, optional}
-use Rattle.gp_commands.specs.Fields.{octet, octet_at}
 use Rattle.gp_commands.specs.Keying.{reserved}
 use Rattle.gp_commands.specs.Application.{clusters_size, clusters_agree}
 use Rattle.gp_commands.specs.Commissioning.{level, key_kind, wanted_by, commissioning, security_agrees, application_agrees, fields_agree, HasCommissioningWidths, extended_at, keying_place, application_place, rest_place, commissioning_reason, commissioning_at}
 use Rattle.gp_commands.proofs.Answers.{first_none, agree_is, agree_same}
 use Rattle.gp_commands.proofs.Applied.{HasApplication, information_octets, unwrap-value_if, application_split, application_again}
-use Rattle.gp_commands.proofs.Codec.{At, IsField, optional_codec, octet_codec, join}
+use Rattle.gp_base.proofs.Codec.{At, IsField, optional_codec, octet_codec, join}
 use Rattle.gp_commands.proofs.Keyed.{HasKeying, keying_codec}
 use Rattle.gp_commands.proofs.Places.{application_end_above}
 

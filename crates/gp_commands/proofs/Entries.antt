@@ -8,12 +8,12 @@ use Rattle.std.proofs.lemmas.List.{nil_from_length}
 use Rattle.std.proofs.lemmas.List.Concat.{flat_map-cons}
 use Rattle.gp_commands.specs.declared.command.CommandReason.{CommandReason}
 use Rattle.gp_commands.specs.declared.command.CommandReason.TheVariants.{Short, ValueKind}
-use Rattle.gp_base.specs.Field.{part}
-use Rattle.gp_commands.specs.Fields.{answer, or_else, octet_at}
+use Rattle.gp_base.specs.Field.{part, octet_at}
+use Rattle.gp_base.specs.Table.{answer, or_else}
 use Rattle.gp_commands.specs.Values.{value_size}
 use Rattle.gp_commands.specs.Report.{Entry, entry, IsEntry, AreRecords, value_size_at, entry_reason, entries_reason, next_place}
 use Rattle.gp_commands.proofs.Answers.{answer_ok, answer_err, first_none, pred_of}
-use Rattle.gp_commands.proofs.Codec.{join, At, At-after, At-octet, At-first, split_octet, split_octets, length-octets_at}
+use Rattle.gp_base.proofs.Codec.{join, At, At-after, At-octet, At-first, split_octet, split_octets, length-octets_at}
 use Rattle.gp_commands.proofs.Sizes.{value_size_positive}
 
 -- What the entries from here on say is what those from the start say, where fuel is enough for them.

@@ -1,13 +1,12 @@
 -- Key, MIC and counter at places, and spelled out.
 use Rattle.std.proofs.Common.{◌≡◌, ℕ, ◌+◌, ◌^◌, ◌<◌, ◌≤◌, List, ◌++◌, length, drop, refl, ap, subst, ◌∙◌, append_assoc, arith}
 use Rattle.std.specs.Int.{w32, to_le_bytes}
+use Rattle.gp_base.specs.Field.{IsOctets, four_at, optional, key_octets, size_if, value_if}
 use Rattle.gp_commands.specs.Inside.{keying_octets}
 use Rattle.gp_commands.specs.declared.keying.Keying.{Keying}
 use Rattle.gp_commands.specs.declared.keying.Wanted.{Wanted}
-use Rattle.gp_base.specs.Field.{IsOctets, four_at, optional}
-use Rattle.gp_commands.specs.Fields.{key_octets, size_if, value_if}
 use Rattle.gp_commands.specs.Keying.{keying_size, keying_at}
-use Rattle.gp_commands.proofs.Codec.{At, IsField, IsCodec, optional_codec, key_codec, octets_codec, number32_codec, join}
+use Rattle.gp_base.proofs.Codec.{At, IsField, IsCodec, optional_codec, key_codec, octets_codec, number32_codec, join}
 
 -- each of the three is there where it is wanted, and has its width
 pub record HasKeying (wanted : Wanted) (keying : Keying) : Type 0 where

@@ -5,10 +5,9 @@ use Rattle.std.specs.Int.{w16, to_le_bytes}
 use Rattle.std.proofs.lemmas.Bool.{leb-true, leb-false, le-leb, lt-leb}
 use Rattle.std.proofs.lemmas.List.{nil_from_length}
 use Rattle.gp_commands.specs.declared.command.GpdCommand.TheVariants.{Move, Step}
-use Rattle.gp_base.specs.Field.{IsOctets, optional, two_at}
-use Rattle.gp_commands.specs.Fields.{octet, octet_at, size_if, value_if}
+use Rattle.gp_base.specs.Field.{IsOctets, optional, two_at, octet, octet_at, size_if, value_if}
 use Rattle.gp_commands.specs.Level.{HasMoveRest, HasStepRest, move_at, step_at}
-use Rattle.gp_commands.proofs.Codec.{optional_codec, octet_codec, number16_codec}
+use Rattle.gp_base.proofs.Codec.{optional_codec, octet_codec, number16_codec}
 
 -- ---- a Move
 

@@ -1,6 +1,5 @@
 pub mod Answers
 pub mod Applied
-pub mod Codec
 pub mod Commands
 pub mod Commissioned
 pub mod Entries

@@ -3,16 +3,15 @@ use Rattle.std.proofs.Common.{◌≡◌, ℕ, ◌^◌, ◌<◌, ◌≤◌, true,
 use Rattle.std.specs.Prelude.{◌||◌, is_none}
 use Rattle.std.specs.Int.{w16, to_le_bytes}
 use Rattle.std.proofs.lemmas.Bool.{and_parts, and_from, ltb-false, le-ltb}
+use Rattle.gp_base.specs.Field.{IsOctets, has_bit, optional, octet, octet_at}
 use Rattle.gp_commands.specs.Inside.{keying_octets}
 use Rattle.gp_commands.specs.declared.command.Reply.{Reply}
 use Rattle.gp_commands.specs.declared.command.CommandReason.TheVariants.{Short, ReservedLevel, ReservedKeyKind}
 use Rattle.gp_commands.specs.declared.keying.Keying.{Keying}
-use Rattle.gp_base.specs.Field.{IsOctets, has_bit, optional}
-use Rattle.gp_commands.specs.Fields.{octet, octet_at}
 use Rattle.gp_commands.specs.Keying.{reserved}
 use Rattle.gp_commands.specs.Reply.{reply_level, reply_key_kind, reply_wanted, reply, reply_fields_agree, HasReplyWidths, reply_keying_place, reply_rest_place, reply_reason, reply_at}
 use Rattle.gp_commands.proofs.Answers.{first_none, agree_is, agree_same}
-use Rattle.gp_commands.proofs.Codec.{At, IsField, optional_codec, octet_codec, number16_codec, join}
+use Rattle.gp_base.proofs.Codec.{At, IsField, optional_codec, octet_codec, number16_codec, join}
 use Rattle.gp_commands.proofs.Commissioned.{none_of_test, not_reserved, free_tests}
 use Rattle.gp_commands.proofs.Keyed.{HasKeying, keying_codec}
 

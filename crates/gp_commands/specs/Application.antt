@@ -1,8 +1,7 @@
 -- Application information of a Commissioning (Zigbee PRO Green Power, A.4.2, Commissioning command).
 use Rattle.std.specs.Prelude.{ℕ, ◌+◌, ◌*◌, ◌/◌, ◌%◌, Bool, true, List, length, ◌==◌, Option, Some, None, if◌then◌else◌}
 use Rattle.gp_commands.specs.declared.application.Application.{Application}
-use Rattle.gp_base.specs.Field.{has_bit, part, two_at}
-use Rattle.gp_commands.specs.Fields.{octet_at, size_if, value_if}
+use Rattle.gp_base.specs.Field.{has_bit, part, two_at, octet_at, size_if, value_if}
 
 -- how many octets clusters take after their first one, which counts those of servers in its bits 0 to 3 and
 -- those of clients in its bits 4 to 7

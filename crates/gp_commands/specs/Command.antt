@@ -9,8 +9,8 @@ use Rattle.gp_commands.specs.declared.command.GpdCommand.TheVariants.{Plain, Mov
 use Rattle.gp_commands.specs.declared.command.CommandReason.{CommandReason}
 use Rattle.gp_commands.specs.declared.command.CommandReason.TheVariants.{Empty, Short}
 use Rattle.gp_commands.specs.declared.form.TheConstants.{REPORT, COMMISSIONING, REPLY, CHANNEL_REQUEST, CHANNEL_CONFIG}
-use Rattle.gp_base.specs.Field.{optional}
-use Rattle.gp_commands.specs.Fields.{octet, octet_at, answer}
+use Rattle.gp_base.specs.Field.{optional, octet, octet_at}
+use Rattle.gp_base.specs.Table.{answer}
 use Rattle.gp_commands.specs.Forms.{form_of}
 use Rattle.gp_commands.specs.Level.{HasMoveRest, HasStepRest, move_at, step_at}
 use Rattle.gp_commands.specs.Report.{AreRecords, report_reason, report_at}

@@ -1,12 +1,11 @@
 -- The Commissioning command (Zigbee PRO Green Power, A.4.2.1.1).
 use Rattle.std.specs.Prelude.{◌≡◌, ℕ, ◌+◌, ◌/◌, ◌%◌, ◌<◌, ◌^◌, ◌==◌, nat_lt, Bool, if◌then◌else◌, ◌&&◌, ◌||◌, List, [], ◌∷◌, length, drop, Option, is_some, is_none, unwrap_or, IfSome}
 use Rattle.std.specs.Int.{w16, w32, to_le_bytes}
+use Rattle.gp_base.specs.Field.{has_bit, optional, agree, octet, key_octets, counted, joined, octet_at, size_if, value_if}
 use Rattle.gp_base.specs.Table.{first_of}
 use Rattle.gp_commands.specs.declared.command.Commissioning.{Commissioning}
 use Rattle.gp_commands.specs.declared.command.CommandReason.{CommandReason}
 use Rattle.gp_commands.specs.declared.command.CommandReason.TheVariants.{Short, ReservedLevel, ReservedKeyKind}
-use Rattle.gp_base.specs.Field.{has_bit, optional}
-use Rattle.gp_commands.specs.Fields.{agree, octet, key_octets, counted, joined, octet_at, size_if, value_if}
 use Rattle.gp_commands.specs.Application.{clusters_agree, application_end, application_at}
 use Rattle.gp_commands.specs.declared.keying.Wanted.{Wanted}
 use Rattle.gp_commands.specs.Keying.{reserved, keying_size, keying_at}

@@ -3,40 +3,20 @@
 use Rattle.std.specs.Prelude.{◌≡◌, ℕ, ◌+◌, ◌<◌, ◌≤◌, ◌^◌, List, [], ◌∷◌, ◌++◌, length, Option, IfSome}
 use Rattle.std.specs.Option.{MatchOption}
 use Rattle.std.specs.Int.{w16, w32, to_le_bytes}
+use Rattle.gp_base.specs.Field.{has_bit, optional, octet, key_octets, counted, joined, octet_at, value_if}
 use Rattle.gp_base.specs.Walk.{Walk}
-use Rattle.gp_base.specs.Field.{has_bit, optional}
 use Rattle.gp_commands.specs.declared.command.Commissioning.{Commissioning}
 use Rattle.gp_commands.specs.declared.command.Reply.{Reply}
 use Rattle.gp_commands.specs.declared.commissioning.Header.{Header}
 use Rattle.gp_commands.specs.declared.keying.Keying.{Keying}
-use Rattle.gp_commands.specs.Fields.{octet, key_octets, counted, joined, octet_at, value_if}
 
 -- ---- a step of a walk
-
--- The walk has taken so many octets.
-pub record Took (size : ℕ) (old new : Walk) : Type 0 where
-  pub octets : new.octets ≡ old.octets
-  pub place : new.place ≡ old.place + size
-  pub within : old.place + size ≤ length old.octets
-
--- The field of so many octets was taken; or an octet of it is missing.
-abbrev pub Takes : {X : Type 0} → ℕ → X → Walk → Walk → Option X → Type 0
-Takes size field old new taken =
-    MatchOption taken (length old.octets < old.place + size) (λ x. (x ≡ field) × Took size old new)
 
 -- What stands up to this place was taken; or an octet of it is missing.
 abbrev pub TakesTo : {X : Type 0} → ℕ → X → Walk → Walk → Option X → Type 0
 TakesTo end part old new taken =
     MatchOption taken (length old.octets < end)
     (λ x. (x ≡ part) × (new.octets ≡ old.octets) × (new.place ≡ end) × (end ≤ length old.octets))
-
--- The walk stands in the octets, or at their end.
-abbrev pub IsWithin : Walk → Type 0
-IsWithin walk = walk.place ≤ length walk.octets
-
--- The part was added at the end; or there was no room for it.
-abbrev pub Adds : List ℕ → List ℕ → List ℕ → Option (Unit {0}) → Type 0
-Adds part old new added = MatchOption added (127 < length old + length part) (λ _. new ≡ old ++ part)
 
 -- ---- key, MIC and counter
 

@@ -1,13 +1,12 @@
 -- A key, its MIC and a counter, each there or not, as Commissioning and its reply carry them
 -- (Zigbee PRO Green Power, A.4.2, Commissioning and Commissioning Reply commands).
 use Rattle.std.specs.Prelude.{ℕ, ◌+◌, ◌==◌, ◌||◌, List, ◌∷◌, [], Option}
+use Rattle.gp_base.specs.Field.{four_at, part, key_at, size_if, value_if}
 use Rattle.gp_base.specs.Table.{first_of}
 use Rattle.gp_commands.specs.declared.keying.Keying.{Keying}
 use Rattle.gp_commands.specs.declared.keying.Wanted.{Wanted}
 use Rattle.gp_commands.specs.declared.command.CommandReason.{CommandReason}
 use Rattle.gp_commands.specs.declared.command.CommandReason.TheVariants.{ReservedLevel, ReservedKeyKind}
-use Rattle.gp_base.specs.Field.{four_at, part}
-use Rattle.gp_commands.specs.Fields.{key_at, size_if, value_if}
 
 -- level 1, and the kinds of key 5 and 6, are reserved
 abbrev pub reserved : ℕ → ℕ → Option CommandReason

@@ -2,8 +2,7 @@
 use Rattle.std.specs.Prelude.{◌≡◌, ℕ, ◌+◌, ◌≤◌, nat_le, List, [], length, drop, Option, IfNone}
 use Rattle.gp_commands.specs.declared.command.GpdCommand.{GpdCommand}
 use Rattle.gp_commands.specs.declared.command.GpdCommand.TheVariants.{Move, Step}
-use Rattle.gp_base.specs.Field.{two_at}
-use Rattle.gp_commands.specs.Fields.{octet_at, size_if, value_if}
+use Rattle.gp_base.specs.Field.{two_at, octet_at, size_if, value_if}
 
 -- without a rate there is no rest
 abbrev pub HasMoveRest : Option ℕ → List ℕ → Type 0

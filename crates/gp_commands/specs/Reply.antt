@@ -1,12 +1,11 @@
 -- The Commissioning Reply command (Zigbee PRO Green Power, A.4.2, Commissioning Reply command).
 use Rattle.std.specs.Prelude.{◌≡◌, ℕ, ◌+◌, ◌/◌, ◌%◌, ◌^◌, ◌<◌, ◌==◌, IfSome, nat_lt, Bool, ◌&&◌, ◌||◌, List, [], ◌∷◌, length, drop, Option, is_some, is_none}
 use Rattle.std.specs.Int.{w16, w32, to_le_bytes}
+use Rattle.gp_base.specs.Field.{has_bit, optional, two_at, agree, octet, key_octets, joined, octet_at, size_if, value_if}
 use Rattle.gp_base.specs.Table.{first_of}
 use Rattle.gp_commands.specs.declared.command.Reply.{Reply}
 use Rattle.gp_commands.specs.declared.command.CommandReason.{CommandReason}
 use Rattle.gp_commands.specs.declared.command.CommandReason.TheVariants.{Short, ReservedLevel, ReservedKeyKind}
-use Rattle.gp_base.specs.Field.{has_bit, optional, two_at}
-use Rattle.gp_commands.specs.Fields.{agree, octet, key_octets, joined, octet_at, size_if, value_if}
 use Rattle.gp_commands.specs.declared.keying.Wanted.{Wanted}
 use Rattle.gp_commands.specs.Keying.{reserved, keying_size, keying_at}
 

@@ -1,13 +1,12 @@
 -- Attribute reports (Zigbee PRO Green Power, A.4.2.3; Zigbee Cluster Library, 2.5.11).
 use Rattle.std.specs.Prelude.{◌≡◌, ℕ, zero, suc, ◌+◌, ◌==◌, nat_lt, List, [], ◌∷◌, ◌++◌, length, drop, Option, Some, None, is_none, unwrap_or, if◌then◌else◌}
 use Rattle.std.specs.List.{flat_map, AllByRecursion}
-use Rattle.gp_base.specs.Table.{first_of}
+use Rattle.gp_base.specs.Field.{two_at, octet_at}
+use Rattle.gp_base.specs.Table.{first_of, or_else}
 use Rattle.gp_commands.specs.declared.command.GpdCommand.{GpdCommand}
 use Rattle.gp_commands.specs.declared.command.GpdCommand.TheVariants as commands
 use Rattle.gp_commands.specs.declared.command.CommandReason.{CommandReason}
 use Rattle.gp_commands.specs.declared.command.CommandReason.TheVariants.{Short, ValueKind}
-use Rattle.gp_base.specs.Field.{two_at}
-use Rattle.gp_commands.specs.Fields.{octet_at, or_else}
 use Rattle.gp_commands.specs.Values.{value_size}
 
 -- ---- what a report is

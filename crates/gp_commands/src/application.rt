@@ -1,15 +1,15 @@
 //! The application information of a Commissioning.
 
 ghost use Rattle.std.specs.Prelude.{◌≡◌, ◌+◌, ◌<◌, ◌≤◌, ◌^◌, length, IfSome, OnSome};
-ghost use Rattle.gp_base.specs.Field.{part};
-ghost use Rattle.gp_commands.specs.Inside.{Takes, TakesTo, IsWithin, Adds, application_octets};
-ghost use Rattle.gp_commands.specs.Fields.{octet_at, size_if, value_if};
+ghost use Rattle.gp_base.specs.Field.{part, Adds, octet_at, size_if, value_if};
+ghost use Rattle.gp_base.specs.Walk.{Takes, IsWithin};
+ghost use Rattle.gp_commands.specs.Inside.{TakesTo, application_octets};
 ghost use Rattle.gp_commands.specs.Application as words;
 ghost use Rattle.gp_commands.specs.Application.{application_end, application_at};
 ghost use Rattle.gp_commands.specs.Commissioning as flags;
 
 use crate::command::Commissioning;
-use crate::field::{
+use gp_base::field::{
     add, add_counted_if, add_number16_if, add_octet, add_octet_if, add_octets_if, is_set,
     number16_if, octet, octet_if, octet_or_zero, octets,
 };

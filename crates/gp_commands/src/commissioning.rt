@@ -1,14 +1,15 @@
 //! The Commissioning command.
 
 ghost use Rattle.std.specs.Prelude.{◌≡◌, ◌≤◌, length, OnSome};
-ghost use Rattle.gp_commands.specs.Inside.{TakesTo, Adds, header_at, commissioning_in_parts, header_octets};
-ghost use Rattle.gp_commands.specs.Fields.{answer};
+ghost use Rattle.gp_base.specs.Field.{Adds};
+ghost use Rattle.gp_base.specs.Table.{answer};
+ghost use Rattle.gp_commands.specs.Inside.{TakesTo, header_at, commissioning_in_parts, header_octets};
 ghost use Rattle.gp_commands.specs.Commissioning.{keying_place, commissioning_reason, commissioning_at, commissioning, HasCommissioningWidths};
 
 use crate::application::{add_application, application_agrees, take_application};
 use crate::command::{CommandReason, Commissioning, short};
-use crate::field::{add, add_octet, add_octet_if, is_set, octet, octet_if, rest};
 use crate::keying::{Keying, Wanted, add_keying, reserved_reason, take_keying};
+use gp_base::field::{add, add_octet, add_octet_if, is_set, octet, octet_if, rest};
 use gp_base::{Octets, Reader};
 
 /// What stands before the keys.

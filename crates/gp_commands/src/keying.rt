@@ -1,11 +1,13 @@
 //! A key, its MIC and a counter, as Commissioning and its reply carry them.
 
 ghost use Rattle.std.specs.Prelude.{◌≡◌, OnSome};
-ghost use Rattle.gp_commands.specs.Inside.{Takes, IsWithin, Adds, keying_octets, HasKeyingWidths};
+ghost use Rattle.gp_base.specs.Field.{Adds};
+ghost use Rattle.gp_base.specs.Walk.{Takes, IsWithin};
+ghost use Rattle.gp_commands.specs.Inside.{keying_octets, HasKeyingWidths};
 ghost use Rattle.gp_commands.specs.Keying.{keying_size, keying_at, reserved};
 
 use crate::command::CommandReason;
-use crate::field::{add_key_if, add_mic_if, add_number32_if, key_if, mic_if, number32_if};
+use gp_base::field::{add_key_if, add_mic_if, add_number32_if, key_if, mic_if, number32_if};
 use gp_base::{Key, Octets, Reader};
 
 /// Which of the three are there.

@@ -2,13 +2,11 @@
 
 ghost use Rattle.std.specs.Prelude.{◌≡◌, ◌<◌, ◌≤◌, ◌^◌, ◌↔◌, ◌∷◌, ◌++◌, length, nat_lt, Some, None, IsTrue, IfSome, OnSome, if◌then◌else◌};
 ghost use Rattle.std.specs.Int.{w16, to_le_bytes};
-ghost use Rattle.gp_base.specs.Field.{optional};
-ghost use Rattle.gp_commands.specs.Inside.{Adds};
-ghost use Rattle.gp_commands.specs.Fields.{octet as one, octet_at};
+ghost use Rattle.gp_base.specs.Field.{optional, Adds, octet as one, octet_at};
 ghost use Rattle.gp_commands.specs.Level.{move_at, step_at, HasMoveRest, HasStepRest};
 
 use crate::command::GpdCommand;
-use crate::field::{add, add_number16_if, add_octet, add_octet_if, number16, octet, rest};
+use gp_base::field::{add, add_number16_if, add_octet, add_octet_if, number16, octet, rest};
 use gp_base::{Octets, Reader};
 
 /// Reads a Move after its identifier: the rate is there where an octet is left.

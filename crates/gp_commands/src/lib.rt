@@ -17,7 +17,6 @@
 mod application;
 mod command;
 mod commissioning;
-mod field;
 mod form;
 mod keying;
 mod level;

@@ -3,16 +3,17 @@
 ghost use Rattle.std.specs.Prelude.{◌≡◌, ◌≤◌, length, drop, IfOk, IfErr, Some, Ok, Err};
 ghost use Rattle.gp_commands.specs.declared.command.GpdCommand.{GpdCommand};
 ghost use Rattle.gp_commands.specs.declared.command.CommandReason.{CommandReason};
-ghost use Rattle.gp_commands.specs.Fields.{answer, octet_at};
+ghost use Rattle.gp_base.specs.Field.{octet_at};
+ghost use Rattle.gp_base.specs.Table.{answer};
 ghost use Rattle.gp_commands.specs.Command.{Command, ends_before, first_reason, reading};
 
 use crate::command::{CommandReason, GpdCommand, short};
 use crate::commissioning::read_commissioning;
-use crate::field::{octet, rest};
 use crate::form::{Form, form_of};
 use crate::level::{read_move, read_step};
 use crate::reply::read_reply;
 use crate::report::read_report;
+use gp_base::field::{octet, rest};
 use gp_base::{Octets, Reader};
 
 /// Reads a command identifier with its payload.

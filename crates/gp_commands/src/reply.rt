@@ -1,13 +1,14 @@
 //! The Commissioning Reply command.
 
 ghost use Rattle.std.specs.Prelude.{◌≡◌, ◌≤◌, ◌<◌, ◌^◌, length, IfSome, OnSome};
-ghost use Rattle.gp_commands.specs.Inside.{Adds, reply_in_parts, reply_header_octets};
-ghost use Rattle.gp_commands.specs.Fields.{answer};
+ghost use Rattle.gp_base.specs.Field.{Adds};
+ghost use Rattle.gp_base.specs.Table.{answer};
+ghost use Rattle.gp_commands.specs.Inside.{reply_in_parts, reply_header_octets};
 ghost use Rattle.gp_commands.specs.Reply.{reply_reason, reply_at, reply_fields_agree, HasReplyWidths};
 
 use crate::command::{CommandReason, Reply, short};
-use crate::field::{add, add_number16_if, add_octet, is_set, number16_if, octet, rest};
 use crate::keying::{Keying, Wanted, add_keying, reserved_reason, take_keying};
+use gp_base::field::{add, add_number16_if, add_octet, is_set, number16_if, octet, rest};
 use gp_base::{Octets, Reader};
 
 /// Which of key, MIC and counter the options say to be there.

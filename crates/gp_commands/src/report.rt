@@ -1,15 +1,15 @@
 //! Attribute reports.
 
 ghost use Rattle.std.specs.Prelude.{◌≡◌, ◌<◌, ◌≤◌, ◌^◌, ◌↔◌, ◌∷◌, ◌++◌, length, IsTrue, OnSome};
-ghost use Rattle.gp_commands.specs.Inside.{Adds};
+ghost use Rattle.gp_base.specs.Field.{Adds};
+ghost use Rattle.gp_base.specs.Table.{answer};
 ghost use Rattle.gp_commands.specs.Report.{entries_reason, report_reason, report_at, entry_reason, next_place, AreRecords};
 ghost use Rattle.std.specs.Int.{w16, to_le_bytes};
-ghost use Rattle.gp_commands.specs.Fields.{answer};
 
 use crate::command::{CommandReason, GpdCommand, short};
-use crate::field::{add, add_number16, add_octet, number16, octet_or_zero, rest};
 use crate::form::REPORT;
 use crate::value::value_size;
+use gp_base::field::{add, add_number16, add_octet, number16, octet_or_zero, rest};
 use gp_base::{Octets, Reader};
 
 /// Reads a report after its identifier: a cluster, and entries to the end.

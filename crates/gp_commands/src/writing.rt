@@ -2,17 +2,17 @@
 
 ghost use Rattle.std.specs.Prelude.{◌≡◌, ◌∷◌, ◌<◌, ◌≤◌, ◌↔◌, length, IsTrue, OnSome, MatchOption};
 ghost use Rattle.std.specs.Bool.{OnTrue};
-ghost use Rattle.gp_commands.specs.Inside.{Adds};
+ghost use Rattle.gp_base.specs.Field.{Adds};
 ghost use Rattle.gp_commands.specs.Command.{Command, IsSound, spelling, HasForm, HasWidths};
 
 use crate::command::GpdCommand;
 use crate::commissioning::{self, add_commissioning};
-use crate::field::{add, add_octet};
 use crate::form::{CHANNEL_CONFIG, CHANNEL_REQUEST, COMMISSIONING, Form, REPLY, form_of};
 use crate::level::{add_move, add_step, has_move_rest, has_step_rest};
 use crate::reply::{self, add_reply};
 use crate::report::{add_report, are_records};
 use gp_base::Octets;
+use gp_base::field::{add, add_octet};
 
 /// Whether a command has a spelling: exactly where some octets, at most 117 of them, read as it.
 pub fn sound(command: &GpdCommand) -> bool
