@@ -1,0 +1,54 @@
+-- What a disk tells of its failures to come.
+use Rattle.std.specs.Prelude.{◌≡◌, ℕ, ◌-◌, Bool, true, false, nat_le, if◌then◌else◌, ⊤}
+use Rattle.gp_disk.specs.declared.arming.Ending.{Ending}
+use Rattle.gp_disk.specs.declared.arming.Ending.TheVariants.{Stop, Fault}
+use Rattle.gp_disk.specs.declared.arming.Arming.{Arming}
+use Rattle.gp_disk.specs.declared.arming.Arming.TheVariants.{Unarmed, Waits, Due, Spent}
+
+-- a disk that tells nothing; one whose calls go through but for its arming; one whose calls fail until a crash
+pub data Fuse : Type 0 where
+  Untold : Fuse
+  Running : Arming → Fuse
+  Stopped : Arming → Fuse
+
+-- an arming after a `begin`
+abbrev pub begun : Arming → Arming
+begun Unarmed = Unarmed
+begun (Waits begins calls ending) = if nat_le begins 1 then Due calls ending else Waits (begins - 1) calls ending
+begun (Due calls ending) = Unarmed
+begun Spent = Unarmed
+
+-- after a `begin`
+abbrev pub lit : Fuse → Fuse
+lit Untold = Untold
+lit (Running arming) = Running (begun arming)
+lit (Stopped arming) = Stopped (begun arming)
+
+-- whether so many device calls, at least one, all go through
+abbrev pub goes : ℕ → Fuse → Bool
+goes count Untold = true
+goes count (Running Unarmed) = true
+goes count (Running (Waits begins calls ending)) = true
+goes count (Running (Due calls ending)) = nat_le count calls
+goes count (Running Spent) = true
+goes count (Stopped arming) = false
+
+-- what comes once the calls that go through are used up
+abbrev pub blown : Ending → Fuse
+blown Stop = Stopped Spent
+blown Fault = Running Spent
+
+-- after so many device calls, of which the last one alone may have failed
+abbrev pub burnt : ℕ → Fuse → Fuse
+burnt count Untold = Untold
+burnt count (Running Unarmed) = Running Unarmed
+burnt count (Running (Waits begins calls ending)) = Running (Waits begins calls ending)
+burnt count (Running (Due calls ending)) = if nat_le count calls then Running (Due (calls - count) ending) else blown ending
+burnt count (Running Spent) = Running Spent
+burnt count (Stopped arming) = Stopped arming
+
+-- where the disk tells it, so many device calls answer well exactly where they go through
+abbrev pub Foretold : ℕ → Fuse → Bool → Type 0
+Foretold count Untold good = ⊤
+Foretold count (Running arming) good = good ≡ goes count (Running arming)
+Foretold count (Stopped arming) good = good ≡ false

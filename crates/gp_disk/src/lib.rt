@@ -1,0 +1,12 @@
+//! Disks, and what a power cut may leave of them.
+//! To the layer above, a disk is the image that a read gives, the images that a crash now may leave and those
+//! that one at some moment since the last `begin` might have left, beside the counts of its calls and of its
+//! faults. The contracts cite `Disk` for these and `Fuse` for failures that are armed.
+#![tactic(auto)]
+
+mod arming;
+mod device;
+mod durable;
+
+pub use device::Disk;
+pub use durable::{stable, stable_zero};
