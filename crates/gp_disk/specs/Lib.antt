@@ -1,2 +1,6 @@
 pub mod Disk
 pub mod Fuse
+pub mod History
+pub mod Log
+pub mod Step
+pub mod Traced

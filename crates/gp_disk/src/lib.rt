@@ -7,6 +7,7 @@
 mod arming;
 mod device;
 mod durable;
+mod log;
 
 pub use device::Disk;
 pub use durable::{stable, stable_zero};
