@@ -28,7 +28,7 @@ unfolding after_all LeftSince
 LeftSince-last zero held [] x c enough left = left
 LeftSince-last (suc count) held [] x c enough left = absurd (omega arith)
 LeftSince-last zero held (y ∷ ys) x c enough left =
-  ⊎_elim (λ now. inl (inl now)) (λ later. ⊎_elim (λ old. inl (inr old)) (λ new. inr new) (LeftSince-last zero (happen held y) ys x c (omega arith) later)) left
+    ⊎_elim (λ now. inl (inl now)) (λ later. ⊎_elim (λ old. inl (inr old)) (λ new. inr new) (LeftSince-last zero (happen held y) ys x c (omega arith) later)) left
 LeftSince-last (suc count) held (y ∷ ys) x c enough left = LeftSince-last count (happen held y) ys x c (omega arith) left
 
 pub Replaced-last : (base : List ℕ) (ranges : List Range) (range : Range) (c : List ℕ) → Replaced base (ranges ++ range ∷ []) c → (d : List ℕ) × Replaced base ranges d × Outside range.at (length range.octets) d c

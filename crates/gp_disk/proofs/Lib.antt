@@ -1,3 +1,4 @@
 pub mod Histories
 pub mod Ranges
+pub mod Replays
 pub mod Steps

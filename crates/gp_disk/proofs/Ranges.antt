@@ -13,4 +13,3 @@ Outside-put at count octets image short fits = record {
   below = rw append_assoc (take_at (take at image) (octets ++ drop (at + length octets) image) at (length-take-le at image (omega arith)));
   above = drop-append-drop (at + length octets) image (take at image ++ octets) (at + count) (omega arith) (rw length-append (rw (length-take-le at image (omega arith)) refl));
 }
-

@@ -30,9 +30,9 @@ unfolding events octets_of
 events-append [] ys [] ps e = refl
 events-append [] ys (o ∷ os) ps e = absurd (omega arith)
 events-append (Write at count stored ∷ xs) ys os ps e =
-  let enough : count ≤ length os = omega arith in
-  let rest : length (drop count os) ≡ octets_of xs = rw length-drop (omega arith) in
-  rw (take-append-le count os ps enough, drop-append-le count os ps enough) (ap (λ r. Wrote (written at (take count os) stored) ∷ r) (events-append xs ys (drop count os) ps rest))
+    let enough : count ≤ length os = omega arith in
+    let rest : length (drop count os) ≡ octets_of xs = rw length-drop (omega arith) in
+    rw (take-append-le count os ps enough, drop-append-le count os ps enough) (ap (λ r. Wrote (written at (take count os) stored) ∷ r) (events-append xs ys (drop count os) ps rest))
 events-append (Zero at count stored ∷ xs) ys os ps e = ap (λ r. Wrote (zeroed at count stored) ∷ r) (events-append xs ys os ps e)
 events-append (Sync ∷ xs) ys os ps e = ap (λ r. Synced ∷ r) (events-append xs ys os ps e)
 
@@ -40,7 +40,7 @@ events-append (Sync ∷ xs) ys os ps e = ap (λ r. Synced ∷ r) (events-append 
 pub events-write : (steps : List Step) (os octets : List ℕ) (at stored : ℕ) → length os ≡ octets_of steps → events (steps ++ Write at (length octets) stored ∷ []) (os ++ octets) ≡ events steps os ++ Wrote (written at octets stored) ∷ []
 unfolding events
 events-write steps os octets at stored e =
-  rw (events-append steps (Write at (length octets) stored ∷ []) os octets e, take_all (length octets) octets (omega arith)) refl
+    rw (events-append steps (Write at (length octets) stored ∷ []) os octets e, take_all (length octets) octets (omega arith)) refl
 
 pub events-zero : (steps : List Step) (os : List ℕ) (at count stored : ℕ) → length os ≡ octets_of steps → events (steps ++ Zero at count stored ∷ []) os ≡ events steps os ++ Wrote (zeroed at count stored) ∷ []
 unfolding events

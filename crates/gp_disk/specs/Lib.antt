@@ -3,4 +3,5 @@ pub mod Fuse
 pub mod History
 pub mod Log
 pub mod Step
+pub mod Redone
 pub mod Traced

@@ -8,6 +8,7 @@ mod arming;
 mod device;
 mod durable;
 mod log;
+mod replay;
 
 pub use device::Disk;
 pub use durable::{stable, stable_zero};
