@@ -1,3 +1,4 @@
+pub mod Contents
 pub mod Histories
 pub mod Ranges
 pub mod Replays

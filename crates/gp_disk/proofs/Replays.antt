@@ -42,12 +42,12 @@ seen-after_all held (Synced ∷ xs) = seen-after_all (happen held Synced) xs
 pub redo_more : (steps : List Step) (i : ℕ) (d : Step) (octets rest image new : List ℕ) → i < length steps → new ≡ redone image (events (get_or steps i d ∷ []) octets) → rest ≡ drop (octets_of (get_or steps i d ∷ [])) octets
     → redone new (events (drop (i + 1) steps) rest) ≡ redone image (events (drop i steps) octets)
 redo_more steps i d octets rest image new here image_is rest_is =
-  rw (drop_more steps i d here, redone-events (get_or steps i d) (drop (i + 1) steps) octets image, image_is, rest_is) refl
+    rw (drop_more steps i d here, redone-events (get_or steps i d) (drop (i + 1) steps) octets image, image_is, rest_is) refl
 
 pub strike_more : (way : ℕ) (steps : List Step) (i : ℕ) (d : Step) (octets rest image new : List ℕ) → i < length steps → new ≡ struck way image (ranges_of (events (get_or steps i d ∷ []) octets)) → rest ≡ drop (octets_of (get_or steps i d ∷ [])) octets
     → struck way new (ranges_of (events (drop (i + 1) steps) rest)) ≡ struck way image (ranges_of (events (drop i steps) octets))
 strike_more way steps i d octets rest image new here image_is rest_is =
-  rw (drop_more steps i d here, struck-events way (get_or steps i d) (drop (i + 1) steps) octets image, image_is, rest_is) refl
+    rw (drop_more steps i d here, struck-events way (get_or steps i d) (drop (i + 1) steps) octets image, image_is, rest_is) refl
 
 -- after the last one
 pub redo_all : (steps : List Step) (i : ℕ) (octets image : List ℕ) → length steps ≤ i → redone image (events (drop i steps) octets) ≡ image

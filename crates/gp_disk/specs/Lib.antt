@@ -1,3 +1,4 @@
+pub mod Content
 pub mod Disk
 pub mod Fuse
 pub mod History

@@ -5,6 +5,7 @@
 #![tactic(auto)]
 
 mod arming;
+mod content;
 mod device;
 mod durable;
 mod log;

@@ -40,6 +40,7 @@ impl Log {
 
     /// No steps, and room for so many with so many octets.
     pub fn with_room(alloc: Global, steps: usize, octets: usize) -> Result<Log, AllocError>
+        ensures events { IfOk result (λ log. log_events log ≡ []) }
         ensures empty { IfOk result (λ log. log.steps.items ≡ []) }
         ensures no_octets { IfOk result (λ log. log.octets.items ≡ []) }
         ensures room { IfOk result (λ log. steps ≤ vec_capacity log.steps) }

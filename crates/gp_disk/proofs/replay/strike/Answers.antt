@@ -9,7 +9,7 @@ use Rattle.gp_disk.proofs.replay.strike.Goals as goal
 
 pub strike_step-octets-requires-clause-enough : goal.strike_step-octets-requires-clause-enough
 strike_step-octets-requires-clause-enough c =
-  omega (arith, octets_of-first c.deref-step-items.result.now c.loop-step.step-index (Write 0 0 0) c.loop-step-test.true, c.loop-step.invariant.enough)
+    omega (arith, octets_of-first c.deref-step-items.result.now c.loop-step.step-index (Write 0 0 0) c.loop-step-test.true, c.loop-step.invariant.enough)
 
 pub loop-step-preserved : goal.loop-step-preserved
 loop-step-preserved c = record {

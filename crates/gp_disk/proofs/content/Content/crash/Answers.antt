@@ -1,0 +1,25 @@
+use Rattle.std.proofs.Common.{rules, ◌≡◌, ◌+◌, ◌≤◌, true, List, [], ◌∷◌, ◌++◌, length, take, drop, replicate, refl, sym, ◌∙◌, ap, arith, length-take}
+use Rattle.std.proofs.lemmas.List.{length-replicate}
+use Rattle.gp_disk.specs.declared.log.Step.TheVariants.{Write, Zero, Sync}
+use Rattle.gp_disk.specs.History.{Synced, Held, at_rest, after_all, lived}
+use Rattle.gp_disk.specs.Log.{log_events}
+use Rattle.gp_disk.specs.Step.{written, zeroed, events, is_write, is_within}
+use Rattle.gp_disk.proofs.Contents.{struck-crashed, reads-none, traced-none, certain-none, none_pending-none}
+use Rattle.gp_disk.proofs.content.Content.crash.Goals as goal
+
+pub invariant_of-self-clause-reads : goal.invariant_of-self-clause-reads
+invariant_of-self-clause-reads c =
+    reads-none c.copy_onto.new.image.items c.strike_on.new.image.items (log_events c.clear.new.self) (log_events c.clear-2.new.self) (c.copy_onto.ensures ∙ c.deref.ensures.value) c.clear.ensures.events c.clear-2.ensures.events
+
+pub invariant_of-self-clause-traced : goal.invariant_of-self-clause-traced
+invariant_of-self-clause-traced c = traced-none (at_rest c.strike_on.new.image.items) (log_events c.clear.new.self) (log_events c.clear-2.new.self) c.clear.ensures.events c.clear-2.ensures.events
+
+pub invariant_of-self-clause-certain : goal.invariant_of-self-clause-certain
+invariant_of-self-clause-certain c = certain-none c.strike_on.new.image.items (log_events c.clear.new.self) c.clear.ensures.events
+
+pub invariant_of-self-clause-none_pending : goal.invariant_of-self-clause-none_pending
+invariant_of-self-clause-none_pending c = none_pending-none c.strike_on.new.image.items (log_events c.clear.new.self) c.clear.ensures.events
+
+pub returns-clause-image : goal.returns-clause-image
+returns-clause-image c =
+    struck-crashed c.args.way c.args.self.now.origin.items c.redo_on.new.image.items c.copy_onto.new.image.items (log_events c.args.self.now.settled) c.args.self.now.pending.steps.items c.args.self.now.pending.octets.items c.args.self.now.certain c.args.self.now.none_pending c.args.self.now.writes c.redo_on.ensures.image (c.copy_onto.ensures ∙ c.deref.ensures.value ∙ c.strike_on.ensures.image)

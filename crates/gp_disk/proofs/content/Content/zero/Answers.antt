@@ -1,0 +1,22 @@
+use Rattle.std.proofs.Common.{rules, ◌≡◌, ◌+◌, ◌≤◌, true, List, [], ◌∷◌, ◌++◌, length, take, drop, replicate, refl, sym, ◌∙◌, ap, arith, length-take}
+use Rattle.std.proofs.lemmas.List.{length-replicate}
+use Rattle.gp_disk.specs.declared.log.Step.TheVariants.{Write, Zero, Sync}
+use Rattle.gp_disk.specs.History.{Synced, Held, at_rest, after_all, lived}
+use Rattle.gp_disk.specs.Log.{log_events}
+use Rattle.gp_disk.specs.Step.{written, zeroed, events, is_write, is_within}
+use Rattle.gp_disk.proofs.Contents.{reads-wrote, traced-wrote, list_all-push, within-zero}
+use Rattle.gp_disk.proofs.content.Content.zero.Goals as goal
+
+pub invariant_of-self-clause-reads : goal.invariant_of-self-clause-reads
+invariant_of-self-clause-reads c =
+    reads-wrote (at_rest c.args.self.now.origin.items) (log_events c.args.self.now.settled) (log_events c.args.self.now.pending) (log_events c.add_zeros.new.self) (zeroed c.args.at c.args.count c.args.stored) c.args.self.now.image.items c.zero_into.new.image.items c.args.self.now.reads c.add_zeros.ensures.events c.zero_into.ensures
+
+pub invariant_of-self-clause-traced : goal.invariant_of-self-clause-traced
+invariant_of-self-clause-traced c =
+    traced-wrote (at_rest c.args.self.now.origin.items) (log_events c.args.self.now.settled) (log_events c.args.self.now.pending) (log_events c.add_zeros.new.self) (zeroed c.args.at c.args.count c.args.stored) c.args.self.now.image.items c.args.self.now.reads c.add_zeros.ensures.events c.args.self.now.traced (rw length-replicate c.requires.range) (rw (length-replicate, length-replicate) c.requires.stored)
+
+pub invariant_of-self-clause-writes : goal.invariant_of-self-clause-writes
+invariant_of-self-clause-writes c = list_all-push is_write c.args.self.now.pending.steps.items c.add_zeros.new.self.steps.items (Zero c.args.at c.args.count c.args.stored) c.add_zeros.ensures.steps c.args.self.now.writes refl
+
+pub invariant_of-self-clause-pending_within : goal.invariant_of-self-clause-pending_within
+invariant_of-self-clause-pending_within c = list_all-push (is_within (length c.args.self.now.origin.items)) c.args.self.now.pending.steps.items c.add_zeros.new.self.steps.items (Zero c.args.at c.args.count c.args.stored) c.add_zeros.ensures.steps c.args.self.now.pending_within (within-zero (length c.args.self.now.origin.items) c.args.at c.args.count c.args.stored (omega (arith, c.args.self.now.sized)) c.requires.stored)
