@@ -1,5 +1,6 @@
 -- What a disk tells of its failures to come.
 use Rattle.std.specs.Prelude.{◌≡◌, ℕ, ◌-◌, Bool, true, false, nat_le, if◌then◌else◌, ⊤}
+use Rattle.gp_base.specs.Outside.{one_more}
 use Rattle.gp_disk.specs.declared.arming.Ending.{Ending}
 use Rattle.gp_disk.specs.declared.arming.Ending.TheVariants.{Stop, Fault}
 use Rattle.gp_disk.specs.declared.arming.Arming.{Arming}
@@ -10,6 +11,10 @@ pub data Fuse : Type 0 where
   Untold : Fuse
   Running : Arming → Fuse
   Stopped : Arming → Fuse
+
+abbrev pub fuse_from : Bool → Arming → Fuse
+fuse_from true arming = Stopped arming
+fuse_from false arming = Running arming
 
 -- an arming after a `begin`
 abbrev pub begun : Arming → Arming
@@ -52,3 +57,51 @@ abbrev pub Foretold : ℕ → Fuse → Bool → Type 0
 Foretold count Untold good = ⊤
 Foretold count (Running arming) good = good ≡ goes count (Running arming)
 Foretold count (Stopped arming) good = good ≡ false
+
+-- a due arming is dropped
+abbrev pub undue : Arming → Arming
+undue Unarmed = Unarmed
+undue (Waits begins calls ending) = Waits begins calls ending
+undue (Due calls ending) = Unarmed
+undue Spent = Unarmed
+
+-- after a crash
+abbrev pub crashed : Fuse → Fuse
+crashed Untold = Untold
+crashed (Running arming) = Running (undue arming)
+crashed (Stopped arming) = Running (undue arming)
+
+-- with another arming in place of the one that there was
+abbrev pub rearmed : Arming → Fuse → Fuse
+rearmed new Untold = Untold
+rearmed new (Running arming) = Running new
+rearmed new (Stopped arming) = Stopped new
+
+-- one that isn't due waits for one `begin` more
+abbrev pub later : Arming → Arming
+later Unarmed = Unarmed
+later (Waits begins calls ending) = Waits (one_more begins) calls ending
+later (Due calls ending) = Due calls ending
+later Spent = Spent
+
+abbrev pub deferred : Fuse → Fuse
+deferred Untold = Untold
+deferred (Running arming) = Running (later arming)
+deferred (Stopped arming) = Stopped (later arming)
+
+-- an arming is due from its `begin` until the next one or a crash
+abbrev pub is_due_arming : Arming → Bool
+is_due_arming Unarmed = false
+is_due_arming (Waits begins calls ending) = false
+is_due_arming (Due calls ending) = true
+is_due_arming Spent = true
+
+abbrev pub is_due : Fuse → Bool
+is_due Untold = false
+is_due (Running arming) = is_due_arming arming
+is_due (Stopped arming) = is_due_arming arming
+
+abbrev pub has_stopped : Fuse → Bool
+has_stopped Untold = false
+has_stopped (Running arming) = false
+has_stopped (Stopped arming) = true

@@ -1,8 +1,11 @@
 pub mod Content
+pub mod Counts
 pub mod Disk
 pub mod Fuse
 pub mod History
 pub mod Log
 pub mod Step
+pub mod Memory
 pub mod Redone
 pub mod Traced
+pub mod Trigger

@@ -1,5 +1,5 @@
 -- A history done again on an image, and what a crash makes of the ranges that are pending.
-use Rattle.std.specs.Prelude.{ℕ, ◌-◌, ◌/◌, List, [], ◌∷◌, ◌++◌, length, take, drop, map, replicate, ◌==◌, if◌then◌else◌}
+use Rattle.std.specs.Prelude.{ℕ, ◌-◌, ◌/◌, Bool, List, [], ◌∷◌, ◌++◌, length, take, drop, map, replicate, ◌==◌, if◌then◌else◌}
 use Rattle.gp_disk.specs.Disk.{part, put}
 use Rattle.gp_disk.specs.History.{Range, Done, Wrote, Synced}
 
@@ -30,3 +30,7 @@ filled way new old =
 unfoldable pub struck : ℕ → List ℕ → List Range → List ℕ
 struck way image [] = image
 struck way image (range ∷ ranges) = struck way (put range.at (filled way range.octets (part range.at (length range.octets) image)) image) ranges
+
+-- so many octets of a write are stored: all of them, or the first half of them, rounded down, where it fails
+abbrev pub stored_of : Bool → ℕ → ℕ
+stored_of good count = if good then count else count / 2

@@ -6,10 +6,14 @@
 
 mod arming;
 mod content;
+mod counts;
 mod device;
 mod durable;
 mod log;
+mod memory;
 mod replay;
+mod trigger;
 
 pub use device::Disk;
 pub use durable::{stable, stable_zero};
+pub use memory::MemoryDisk;

@@ -1,0 +1,16 @@
+-- What the counts that a disk keeps tell.
+use Rattle.std.specs.Prelude.{ℕ, Bool, true, false}
+use Rattle.gp_disk.specs.declared.counts.Counts.{Counts}
+use Rattle.gp_disk.specs.Disk.{Tally}
+
+abbrev pub tally_of : ℕ → Counts → Tally
+tally_of size counts = record {
+  size = size;
+  begins = counts.begins;
+  before = counts.before;
+  calls = counts.calls;
+  writes = counts.writes;
+  octets = counts.octets;
+  pending = counts.pending;
+  unsettled = counts.unsettled;
+}
