@@ -1,5 +1,6 @@
 pub mod Contents
 pub mod Histories
+pub mod Pasts
 pub mod Ranges
 pub mod Replays
 pub mod Steps

@@ -78,6 +78,7 @@ impl Content {
         requires steps { (used_of self.old).steps < 16 }
         requires octets { (used_of self.old).octets + length octets.now ≤ 262400 }
         ensures image { self.new.image.items ≡ put at (take stored octets.now) self.old.image.items }
+        ensures size { length self.new.image.items ≡ length self.old.image.items }
         ensures past { past_of self.new ≡ lived (past_of self.old) (Wrote (written at octets.now stored)) }
         ensures used { used_of self.new ≡ record (used_of self.old) { steps = (used_of self.old).steps + 1; octets = (used_of self.old).octets + length octets.now } }
     {
@@ -91,6 +92,7 @@ impl Content {
         requires stored { stored ≤ count }
         requires steps { (used_of self.old).steps < 16 }
         ensures image { self.new.image.items ≡ put at (replicate stored 0) self.old.image.items }
+        ensures size { length self.new.image.items ≡ length self.old.image.items }
         ensures past { past_of self.new ≡ lived (past_of self.old) (Wrote (zeroed at count stored)) }
         ensures used { used_of self.new ≡ record (used_of self.old) { steps = (used_of self.old).steps + 1 } }
     {

@@ -1,7 +1,7 @@
 //! The counts of a disk's calls.
 
-ghost use Rattle.std.specs.Prelude.{◌≡◌, ◌+◌, ◌<◌, ◌≤◌, ℕ};
-ghost use Rattle.gp_disk.specs.Disk.{after_begin, after_read, after_write, after_sync, after_failed_sync};
+ghost use Rattle.std.specs.Prelude.{◌≡◌, ◌+◌, ◌<◌, ◌≤◌, true, false};
+ghost use Rattle.gp_base.specs.Outside.{one_more};
 
 /// How often each call was made, and what is pending.
 #[derive(Clone, Copy, PartialEq, Eq, Debug)]
@@ -23,10 +23,31 @@ pub struct Counts {
 }
 
 impl Counts {
-    ghost use Rattle.gp_disk.specs.Counts.{tally_of};
+    /// No call so far.
+    pub fn none() -> Counts
+        ensures { result ≡ record { begins = 0; before = 0; calls = 0; writes = 0; octets = 0; pending = false; unsettled = false } }
+    {
+        Counts {
+            begins: 0,
+            before: 0,
+            calls: 0,
+            writes: 0,
+            octets: 0,
+            pending: false,
+            unsettled: false,
+        }
+    }
+
+    /// After a crash nothing is pending.
+    pub fn crash(&mut self)
+        ensures { self.new ≡ record self.old { pending = false; unsettled = false } }
+    {
+        self.pending = false;
+        self.unsettled = false;
+    }
 
     pub fn begin(&mut self)
-        ensures { (size : ℕ) → tally_of size self.new ≡ after_begin (tally_of size self.old) }
+        ensures { self.new ≡ record self.old { begins = one_more self.old.begins; before = self.old.calls; calls = 0; writes = 0; octets = 0; unsettled = self.old.pending } }
     {
         self.begins = self.begins.saturating_add(1);
         self.before = self.calls;
@@ -37,7 +58,7 @@ impl Counts {
     }
 
     pub fn read(&mut self)
-        ensures { (size : ℕ) → tally_of size self.new ≡ after_read (tally_of size self.old) }
+        ensures { self.new ≡ record self.old { calls = one_more self.old.calls } }
     {
         self.calls = self.calls.saturating_add(1);
     }
@@ -45,7 +66,7 @@ impl Counts {
     pub fn write(&mut self, count: u64)
         requires calls { self.old.writes < 16 }
         requires octets { self.old.octets + count ≤ 262400 }
-        ensures { (size : ℕ) → tally_of size self.new ≡ after_write count (tally_of size self.old) }
+        ensures { self.new ≡ record self.old { calls = one_more self.old.calls; writes = self.old.writes + 1; octets = self.old.octets + count; pending = true } }
     {
         self.calls = self.calls.saturating_add(1);
         self.writes += 1;
@@ -55,7 +76,7 @@ impl Counts {
 
     pub fn sync(&mut self)
         requires { self.old.writes < 16 }
-        ensures { (size : ℕ) → tally_of size self.new ≡ after_sync (tally_of size self.old) }
+        ensures { self.new ≡ record self.old { calls = one_more self.old.calls; writes = self.old.writes + 1; pending = false; unsettled = false } }
     {
         self.calls = self.calls.saturating_add(1);
         self.writes += 1;
@@ -65,7 +86,7 @@ impl Counts {
 
     pub fn failed_sync(&mut self)
         requires { self.old.writes < 16 }
-        ensures { (size : ℕ) → tally_of size self.new ≡ after_failed_sync (tally_of size self.old) }
+        ensures { self.new ≡ record self.old { calls = one_more self.old.calls; writes = self.old.writes + 1 } }
     {
         self.calls = self.calls.saturating_add(1);
         self.writes += 1;

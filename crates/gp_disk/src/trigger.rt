@@ -49,6 +49,7 @@ impl Trigger {
     pub fn call(&mut self) -> bool
         ensures goes { result ≡ goes 1 (fuse_of self.old) }
         ensures fuse { fuse_of self.new ≡ burnt 1 (fuse_of self.old) }
+        ensures kept { self.old.faults ≤ self.new.faults }
         ensures faults { self.new.faults ≡ (if result then self.old.faults else one_more self.old.faults) }
     {
         if self.stopped {

@@ -1,0 +1,17 @@
+use Rattle.std.proofs.Common.{◌≡◌, ℕ, List, length, refl, sym, ◌∙◌, subst, arith}
+use Rattle.std.proofs.lemmas.List.{length-replicate}
+use Rattle.gp_disk.specs.Content.{past_of}
+use Rattle.gp_disk.specs.Disk.{Follows, Same}
+use Rattle.gp_disk.specs.History.{Wrote, Synced, MayLeave, PastLeft, held_after}
+use Rattle.gp_disk.specs.Step.{written, zeroed}
+use Rattle.gp_disk.proofs.Pasts.{held-lived, follows-wrote, grows-lived, same-begun, only-at_rest, begun_before, certain_synced}
+use Rattle.gp_disk.proofs.memory.MemoryDiskDisk.sync.Goals as goal
+
+pub returns-clause-held : goal.returns-clause-held
+returns-clause-held c = held-lived (past_of c.args.self.now.content) (past_of c.sync.new.self) Synced c.sync.ensures.past
+
+pub returns-clause-certain : goal.returns-clause-certain
+returns-clause-certain c = certain_synced c.args.self.now.content c.sync.new.self c.sync.ensures.image c.sync.ensures.past
+
+pub returns-clause-since : goal.returns-clause-since
+returns-clause-since c = grows-lived (past_of c.args.self.now.content) (past_of c.sync.new.self) Synced c.sync.ensures.past (begun_before c.args.self.now.content)
