@@ -4,3 +4,4 @@ pub mod Pasts
 pub mod Ranges
 pub mod Replays
 pub mod Steps
+pub mod Strikes

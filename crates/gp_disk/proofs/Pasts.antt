@@ -6,7 +6,7 @@ use Rattle.gp_disk.specs.Traced.{LeftSince-now}
 use Rattle.gp_disk.specs.declared.content.Content.{Content}
 use Rattle.gp_disk.specs.Content.{past_of}
 use Rattle.gp_disk.proofs.Steps.{length-events}
-use Rattle.gp_disk.proofs.Contents.{after_all-last}
+use Rattle.gp_disk.proofs.Contents.{after_all-last, after_all-none}
 use Rattle.gp_disk.proofs.Histories.{LeftSince-begun, LeftSince-kept, LeftSince-last, Replaced-last}
 
 pub held-lived : (past new : Past) (x : Done) → new ≡ lived past x → held_after new ≡ happen (held_after past) x
@@ -46,3 +46,10 @@ begun_before content = rw (length-append, length-events, length-events) content.
 pub certain_synced : (old new : Content) → new.image ≡ old.image → past_of new ≡ lived (past_of old) Synced → Only (Some new.image.items) (MayLeave (held_after (past_of new)))
 certain_synced old new same is =
   only-at_rest (held_after (past_of new)) new.image.items (held-lived (past_of old) (past_of new) Synced is ∙ ap at_rest (sym old.reads ∙ ap (λ image. image.items) (sym same)))
+
+-- a past in which nothing has happened
+pub held-none : (past : Past) (image : List ℕ) → past ≡ record { origin = image; history = []; begun = 0 } → held_after past ≡ at_rest image
+held-none past image is = ap held_after is ∙ after_all-none (at_rest image)
+
+pub same-none : (past : Past) (image : List ℕ) → past ≡ record { origin = image; history = []; begun = 0 } → Same (MayLeave (held_after past)) (PastLeft past)
+same-none past image is = same-begun past (let e = ap (λ (p : Past). length p.history) is in omega arith)

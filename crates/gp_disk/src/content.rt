@@ -3,7 +3,7 @@
 ghost use Rattle.std.specs.Prelude.{◌≡◌, ◌+◌, ◌≤◌, ◌<◌, true, [], ◌∷◌, ◌++◌, length, take, replicate, IfOk, vec_capacity};
 ghost use Rattle.std.specs.List.{list_all};
 ghost use Rattle.gp_disk.specs.Disk.{put, part};
-ghost use Rattle.gp_disk.specs.History.{Wrote, Synced, at_rest, after_all, held_after, lived};
+ghost use Rattle.gp_disk.specs.History.{Wrote, Synced, at_rest, after_all, held_after, lived, MayLeave};
 ghost use Rattle.gp_disk.specs.Log.{log_events};
 ghost use Rattle.gp_disk.specs.Redone.{redone, ranges_of, struck};
 ghost use Rattle.gp_disk.specs.Step.{is_within, is_write, written, zeroed};
@@ -115,6 +115,8 @@ impl Content {
 
     /// Crashes in one of the five ways, after which nothing is pending.
     pub fn crash(&mut self, way: u8)
+        ensures size { length self.new.image.items ≡ length self.old.image.items }
+        ensures left { MayLeave (held_after (past_of self.old)) self.new.image.items }
         ensures image { self.new.image.items ≡ struck way (held_after (past_of self.old)).base (held_after (past_of self.old)).pending }
         ensures past { past_of self.new ≡ record { origin = self.new.image.items; history = []; begun = 0 } }
         ensures used { used_of self.new ≡ record { settled_steps = 0; settled_octets = 0; steps = 0; octets = 0 } }

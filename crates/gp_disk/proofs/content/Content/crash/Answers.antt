@@ -1,10 +1,12 @@
-use Rattle.std.proofs.Common.{rules, ◌≡◌, ◌+◌, ◌≤◌, true, List, [], ◌∷◌, ◌++◌, length, take, drop, replicate, refl, sym, ◌∙◌, ap, arith, length-take}
+use Rattle.std.specs.List.{list_all}
+use Rattle.std.proofs.Common.{subst, ℕ, rules, ◌≡◌, ◌+◌, ◌≤◌, true, List, [], ◌∷◌, ◌++◌, length, take, drop, replicate, refl, sym, ◌∙◌, ap, arith, length-take}
 use Rattle.std.proofs.lemmas.List.{length-replicate}
 use Rattle.gp_disk.specs.declared.log.Step.TheVariants.{Write, Zero, Sync}
 use Rattle.gp_disk.specs.History.{Synced, Held, at_rest, after_all, lived}
 use Rattle.gp_disk.specs.Log.{log_events}
 use Rattle.gp_disk.specs.Step.{written, zeroed, events, is_write, is_within}
 use Rattle.gp_disk.proofs.Contents.{struck-crashed, reads-none, traced-none, certain-none, none_pending-none}
+use Rattle.gp_disk.proofs.Strikes.{left-crashed}
 use Rattle.gp_disk.proofs.content.Content.crash.Goals as goal
 
 pub invariant_of-self-clause-reads : goal.invariant_of-self-clause-reads
@@ -23,3 +25,7 @@ invariant_of-self-clause-none_pending c = none_pending-none c.strike_on.new.imag
 pub returns-clause-image : goal.returns-clause-image
 returns-clause-image c =
     struck-crashed c.args.way c.args.self.now.origin.items c.redo_on.new.image.items c.copy_onto.new.image.items (log_events c.args.self.now.settled) c.args.self.now.pending.steps.items c.args.self.now.pending.octets.items c.args.self.now.certain c.args.self.now.none_pending c.args.self.now.writes c.redo_on.ensures.image (c.copy_onto.ensures ∙ c.deref.ensures.value ∙ c.strike_on.ensures.image)
+
+pub returns-clause-left : goal.returns-clause-left
+returns-clause-left c =
+  left-crashed c.args.way c.args.self.now.origin.items c.redo_on.new.image.items c.copy_onto.new.image.items (log_events c.args.self.now.settled) c.args.self.now.pending.steps.items c.args.self.now.pending.octets.items c.args.self.now.certain c.args.self.now.none_pending c.args.self.now.writes (subst (λ (size : ℕ). list_all (is_within size) c.args.self.now.pending.steps.items ≡ true) (sym c.redo_on.ensures.size) c.args.self.now.pending_within) c.redo_on.ensures.image (c.copy_onto.ensures ∙ c.deref.ensures.value ∙ c.strike_on.ensures.image)
