@@ -1,4 +1,5 @@
 pub mod Contents
+pub mod Fuses
 pub mod Histories
 pub mod Pasts
 pub mod Ranges
