@@ -1,6 +1,7 @@
 pub mod Content
 pub mod Counts
 pub mod Disk
+pub mod FileDisk
 pub mod Fuse
 pub mod History
 pub mod Log

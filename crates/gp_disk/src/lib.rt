@@ -9,6 +9,7 @@ mod content;
 mod counts;
 mod device;
 mod durable;
+mod file;
 mod log;
 mod memory;
 mod replay;
@@ -16,4 +17,5 @@ mod trigger;
 
 pub use device::Disk;
 pub use durable::{stable, stable_zero};
+pub use file::FileDisk;
 pub use memory::MemoryDisk;
