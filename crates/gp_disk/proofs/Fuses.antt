@@ -30,8 +30,8 @@ Foretold-both m n Untold good told then_told = tt
 Foretold-both m n (Running Unarmed) good told then_told = then_told
 Foretold-both m n (Running (Waits begins calls ending)) good told then_told = then_told
 Foretold-both m n (Running (Due calls ending)) good told then_told =
-  let here = rw (sym told) at then_told in
-  here ∙ nat_le-sub m n calls (sym told)
+    let here = rw (sym told) at then_told in
+    here ∙ nat_le-sub m n calls (sym told)
 Foretold-both m n (Running Spent) good told then_told = then_told
 Foretold-both m n (Stopped arming) good told then_told = then_told
 

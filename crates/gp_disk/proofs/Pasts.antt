@@ -14,16 +14,16 @@ held-lived past new x is = ap held_after is ∙ after_all-last (at_rest past.ori
 
 pub follows-wrote : (past new : Past) (range : Range) → new ≡ lived past (Wrote range) → Follows range.at (length range.octets) (MayLeave (held_after past)) (MayLeave (held_after new))
 follows-wrote past new range is c left =
-  let held = held-lived past new (Wrote range) is in
-  let left_now = subst (λ (h : Held). MayLeave h c) held left in
-  Replaced-last (held_after past).base (held_after past).pending range c left_now
+    let held = held-lived past new (Wrote range) is in
+    let left_now = subst (λ (h : Held). MayLeave h c) held left in
+    Replaced-last (held_after past).base (held_after past).pending range c left_now
 
 pub grows-lived : (past new : Past) (x : Done) → new ≡ lived past x → past.begun ≤ length past.history → Grows (PastLeft past) (PastLeft new) (MayLeave (held_after new))
 grows-lived past new x is before =
-  subst (λ (p : Past). Grows (PastLeft past) (PastLeft p) (MayLeave (held_after p))) (sym is) record {
-    kept = λ c left. LeftSince-kept past.begun (at_rest past.origin) past.history x c before left;
-    none = λ c left. LeftSince-last past.begun (at_rest past.origin) past.history x c before left;
-  }
+    subst (λ (p : Past). Grows (PastLeft past) (PastLeft p) (MayLeave (held_after p))) (sym is) record {
+      kept = λ c left. LeftSince-kept past.begun (at_rest past.origin) past.history x c before left;
+      none = λ c left. LeftSince-last past.begun (at_rest past.origin) past.history x c before left;
+    }
 
 -- where all has happened before the last `begin`
 pub same-begun : (past : Past) → length past.history ≤ past.begun → Same (MayLeave (held_after past)) (PastLeft past)
@@ -45,7 +45,7 @@ begun_before content = rw (length-append, length-events, length-events) content.
 
 pub certain_synced : (old new : Content) → new.image ≡ old.image → past_of new ≡ lived (past_of old) Synced → Only (Some new.image.items) (MayLeave (held_after (past_of new)))
 certain_synced old new same is =
-  only-at_rest (held_after (past_of new)) new.image.items (held-lived (past_of old) (past_of new) Synced is ∙ ap at_rest (sym old.reads ∙ ap (λ image. image.items) (sym same)))
+    only-at_rest (held_after (past_of new)) new.image.items (held-lived (past_of old) (past_of new) Synced is ∙ ap at_rest (sym old.reads ∙ ap (λ image. image.items) (sym same)))
 
 -- a past in which nothing has happened
 pub held-none : (past : Past) (image : List ℕ) → past ≡ record { origin = image; history = []; begun = 0 } → held_after past ≡ at_rest image

@@ -44,7 +44,7 @@ pub record SameButFuse (old new : MemoryDisk) : Type 0 where
 -- what a read gives is one of the images that a crash now may leave
 pub memory_holds : (disk : MemoryDisk) (c : List ℕ) → memory_image disk ≡ Some c → memory_may_leave disk c
 memory_holds disk c is =
-  subst (λ (x : List ℕ). memory_may_leave disk x) (sym disk.content.reads ∙ ap (λ image. unwrap_or image c) is) (rest_may_be_left disk.content.origin.items (past_of disk.content).history disk.content.traced)
+    subst (λ (x : List ℕ). memory_may_leave disk x) (sym disk.content.reads ∙ ap (λ image. unwrap_or image c) is) (rest_may_be_left disk.content.origin.items (past_of disk.content).history disk.content.traced)
 
 pub memory_counts_now : (disk : MemoryDisk) (c : List ℕ) → memory_may_leave disk c → memory_left disk c
 memory_counts_now disk c now = LeftSince-now disk.content.begun (at_rest disk.content.origin.items) (past_of disk.content).history c now

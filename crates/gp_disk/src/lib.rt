@@ -19,3 +19,6 @@ pub use device::Disk;
 pub use durable::{stable, stable_zero};
 pub use file::FileDisk;
 pub use memory::MemoryDisk;
+
+#[cfg(test)]
+mod tests;

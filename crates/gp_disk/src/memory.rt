@@ -10,11 +10,11 @@ ghost use Rattle.gp_disk.specs.Redone.{stored_of, struck};
 ghost use Rattle.gp_disk.specs.Step.{written, zeroed};
 ghost use Rattle.gp_disk.specs.Fuse.{lit, burnt, crashed, rearmed, deferred, is_due, has_stopped, Foretold, Running};
 
+use crate::Disk;
 use crate::arming::Ending;
 use crate::content::Content;
 use crate::counts::Counts;
 use crate::trigger::Trigger;
-use crate::Disk;
 use gp_base::{Failed, NoMemory};
 use std::alloc::Global;
 
@@ -122,7 +122,8 @@ impl Disk for MemoryDisk {
     {
         let count = octets.len();
         let good = self.trigger.call();
-        self.content.write(at as usize, octets, how_many_stored(good, count));
+        self.content
+            .write(at as usize, octets, how_many_stored(good, count));
         self.counts.write(count as u64);
         answer(good)
     }
@@ -146,7 +147,8 @@ impl Disk for MemoryDisk {
     {
         let count = count as usize;
         let good = self.trigger.call();
-        self.content.zero(at as usize, count, how_many_stored(good, count));
+        self.content
+            .zero(at as usize, count, how_many_stored(good, count));
         self.counts.write(0);
         answer(good)
     }

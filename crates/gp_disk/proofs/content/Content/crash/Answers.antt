@@ -28,4 +28,4 @@ returns-clause-image c =
 
 pub returns-clause-left : goal.returns-clause-left
 returns-clause-left c =
-  left-crashed c.args.way c.args.self.now.origin.items c.redo_on.new.image.items c.copy_onto.new.image.items (log_events c.args.self.now.settled) c.args.self.now.pending.steps.items c.args.self.now.pending.octets.items c.args.self.now.certain c.args.self.now.none_pending c.args.self.now.writes (subst (λ (size : ℕ). list_all (is_within size) c.args.self.now.pending.steps.items ≡ true) (sym c.redo_on.ensures.size) c.args.self.now.pending_within) c.redo_on.ensures.image (c.copy_onto.ensures ∙ c.deref.ensures.value ∙ c.strike_on.ensures.image)
+    left-crashed c.args.way c.args.self.now.origin.items c.redo_on.new.image.items c.copy_onto.new.image.items (log_events c.args.self.now.settled) c.args.self.now.pending.steps.items c.args.self.now.pending.octets.items c.args.self.now.certain c.args.self.now.none_pending c.args.self.now.writes (subst (λ (size : ℕ). list_all (is_within size) c.args.self.now.pending.steps.items ≡ true) (sym c.redo_on.ensures.size) c.args.self.now.pending_within) c.redo_on.ensures.image (c.copy_onto.ensures ∙ c.deref.ensures.value ∙ c.strike_on.ensures.image)

@@ -9,12 +9,12 @@ use Rattle.gp_disk.proofs.memory.MemoryDiskDisk.zero.Goals as goal
 
 pub returns-clause-held : goal.returns-clause-held
 returns-clause-held c =
-  rw (c.answer.ensures, ← c.how_many_stored.ensures) (held-lived (past_of c.args.self.now.content) (past_of c.zero.new.self) (Wrote (zeroed c.args.at c.args.count c.how_many_stored.result)) c.zero.ensures.past)
+    rw (c.answer.ensures, ← c.how_many_stored.ensures) (held-lived (past_of c.args.self.now.content) (past_of c.zero.new.self) (Wrote (zeroed c.args.at c.args.count c.how_many_stored.result)) c.zero.ensures.past)
 
 pub returns-clause-now : goal.returns-clause-now
 returns-clause-now c =
-  subst (λ (count : ℕ). Follows c.args.at count (MayLeave (held_after (past_of c.args.self.now.content))) (MayLeave (held_after (past_of c.zero.new.self)))) (length-replicate c.args.count 0) (follows-wrote (past_of c.args.self.now.content) (past_of c.zero.new.self) (zeroed c.args.at c.args.count c.how_many_stored.result) c.zero.ensures.past)
+    subst (λ (count : ℕ). Follows c.args.at count (MayLeave (held_after (past_of c.args.self.now.content))) (MayLeave (held_after (past_of c.zero.new.self)))) (length-replicate c.args.count 0) (follows-wrote (past_of c.args.self.now.content) (past_of c.zero.new.self) (zeroed c.args.at c.args.count c.how_many_stored.result) c.zero.ensures.past)
 
 pub returns-clause-since : goal.returns-clause-since
 returns-clause-since c =
-  grows-lived (past_of c.args.self.now.content) (past_of c.zero.new.self) (Wrote (zeroed c.args.at c.args.count c.how_many_stored.result)) c.zero.ensures.past (begun_before c.args.self.now.content)
+    grows-lived (past_of c.args.self.now.content) (past_of c.zero.new.self) (Wrote (zeroed c.args.at c.args.count c.how_many_stored.result)) c.zero.ensures.past (begun_before c.args.self.now.content)
