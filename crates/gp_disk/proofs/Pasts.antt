@@ -41,7 +41,7 @@ pub same-refl : (images : List ℕ → Type 0) → Same images images
 same-refl images = record { kept = λ c left. left; none = λ c left. left }
 
 pub begun_before : (content : Content) → content.begun ≤ length (past_of content).history
-begun_before content = rw (length-append, length-events, length-events) content.begun_before
+begun_before content = rw (length-append, length-events content.settled.steps.items content.settled.octets.items, length-events content.pending.steps.items content.pending.octets.items) content.begun_before
 
 pub certain_synced : (old new : Content) → new.image ≡ old.image → past_of new ≡ lived (past_of old) Synced → Only (Some new.image.items) (MayLeave (held_after (past_of new)))
 certain_synced old new same is =

@@ -66,8 +66,7 @@ impl Content {
         ensures begun { self.new.begun ≡ length (past_of self.new).history }
         ensures used { used_of self.new ≡ record (used_of self.old) { settled_steps = 0; settled_octets = 0 } }
     {
-        redo_on(&mut self.origin, &self.settled);
-        self.settled.clear();
+        settle(&mut self.origin, &mut self.settled);
         self.begun = self.pending.steps.len();
     }
 
@@ -121,9 +120,8 @@ impl Content {
         ensures past { past_of self.new ≡ record { origin = self.new.image.items; history = []; begun = 0 } }
         ensures used { used_of self.new ≡ record { settled_steps = 0; settled_octets = 0; steps = 0; octets = 0 } }
     {
-        redo_on(&mut self.origin, &self.settled);
+        settle(&mut self.origin, &mut self.settled);
         strike_on(&mut self.origin, &self.pending, way);
-        self.settled.clear();
         self.pending.clear();
         self.begun = 0;
         copy_onto(&mut self.image, &self.origin);
@@ -150,12 +148,19 @@ fn zero_into(image: &mut Vec<u8>, at: usize, count: usize)
     put_zeros(image, at, count);
 }
 
-fn redo_on(image: &mut Vec<u8>, log: &Log)
-    requires { list_all (is_within (length image.old.items)) log.now.steps.items ≡ true }
-    ensures image { image.new.items ≡ redone image.old.items (log_events log.now) }
-    ensures size { length image.new.items ≡ length image.old.items }
+/// Does the settled steps for good, and forgets them.
+fn settle(origin: &mut Vec<u8>, settled: &mut Log)
+    requires { list_all (is_within (length origin.old.items)) settled.old.steps.items ≡ true }
+    ensures image { origin.new.items ≡ redone origin.old.items (log_events settled.old) }
+    ensures size { length origin.new.items ≡ length origin.old.items }
+    ensures events { log_events settled.new ≡ [] }
+    ensures steps { settled.new.steps.items ≡ [] }
+    ensures octets { settled.new.octets.items ≡ [] }
+    ensures room { vec_capacity settled.new.steps ≡ vec_capacity settled.old.steps }
+    ensures room_octets { vec_capacity settled.new.octets ≡ vec_capacity settled.old.octets }
 {
-    redo(image, log);
+    redo(origin, settled);
+    settled.clear();
 }
 
 fn strike_on(image: &mut Vec<u8>, log: &Log, way: u8)

@@ -1,6 +1,6 @@
 //! What makes the calls of a disk in memory fail.
 
-ghost use Rattle.std.specs.Prelude.{◌≡◌, ◌≤◌, if◌then◌else◌};
+ghost use Rattle.std.specs.Prelude.{◌≡◌, ◌≤◌, false, if◌then◌else◌};
 ghost use Rattle.gp_base.specs.Outside.{one_more};
 ghost use Rattle.gp_disk.specs.declared.arming.Arming.TheVariants.{Waits, Unarmed, Spent};
 ghost use Rattle.gp_disk.specs.Fuse.{fuse_from, begun, lit, blown, goes, burnt, crashed, rearmed, deferred, is_due, Running};
@@ -53,8 +53,7 @@ impl Trigger {
         ensures faults { self.new.faults ≡ (if result then self.old.faults else one_more self.old.faults) }
     {
         if self.stopped {
-            self.faults = self.faults.saturating_add(1);
-            return false;
+            return self.fail();
         }
         let Arming::Due { calls, ending } = self.arming else {
             return true;
@@ -62,14 +61,24 @@ impl Trigger {
         if calls == 0 {
             self.arming = Arming::Spent;
             self.stopped = is_stop(ending);
-            self.faults = self.faults.saturating_add(1);
-            return false;
+            return self.fail();
         }
         self.arming = Arming::Due {
             calls: calls - 1,
             ending,
         };
         true
+    }
+
+    /// Counts a call that fails, and tells that it doesn't go through.
+    fn fail(&mut self) -> bool
+        ensures result { result ≡ false }
+        ensures fuse { fuse_of self.new ≡ fuse_of self.old }
+        ensures kept { self.old.faults ≤ self.new.faults }
+        ensures faults { self.new.faults ≡ one_more self.old.faults }
+    {
+        self.faults = self.faults.saturating_add(1);
+        false
     }
 
     /// Takes a crash.
@@ -128,13 +137,12 @@ fn waiting(begins: u64, calls: u64, ending: Ending) -> Arming
     ensures { result ≡ begun (Waits begins calls ending) }
 {
     if begins <= 1 {
-        Arming::Due { calls, ending }
-    } else {
-        Arming::Waits {
-            begins: begins - 1,
-            calls,
-            ending,
-        }
+        return Arming::Due { calls, ending };
+    }
+    Arming::Waits {
+        begins: begins - 1,
+        calls,
+        ending,
     }
 }
 

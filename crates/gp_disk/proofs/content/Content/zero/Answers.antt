@@ -1,4 +1,4 @@
-use Rattle.std.proofs.Common.{rules, ◌≡◌, ◌+◌, ◌≤◌, true, List, [], ◌∷◌, ◌++◌, length, take, drop, replicate, refl, sym, ◌∙◌, ap, arith, length-take}
+use Rattle.std.proofs.Common.{rules, ◌≡◌, ◌+◌, ◌≤◌, true, List, [], ◌∷◌, ◌++◌, length, take, drop, replicate, refl, sym, ◌∙◌, ap, arith, length-take, ℕ}
 use Rattle.std.proofs.lemmas.List.{length-replicate}
 use Rattle.gp_disk.specs.declared.log.Step.TheVariants.{Write, Zero, Sync}
 use Rattle.gp_disk.specs.History.{Synced, Held, at_rest, after_all, lived}
@@ -13,7 +13,7 @@ invariant_of-self-clause-reads c =
 
 pub invariant_of-self-clause-traced : goal.invariant_of-self-clause-traced
 invariant_of-self-clause-traced c =
-    traced-wrote (at_rest c.args.self.now.origin.items) (log_events c.args.self.now.settled) (log_events c.args.self.now.pending) (log_events c.add_zeros.new.self) (zeroed c.args.at c.args.count c.args.stored) c.args.self.now.image.items c.args.self.now.reads c.add_zeros.ensures.events c.args.self.now.traced (rw length-replicate c.requires.range) (rw (length-replicate, length-replicate) c.requires.stored)
+    traced-wrote (at_rest c.args.self.now.origin.items) (log_events c.args.self.now.settled) (log_events c.args.self.now.pending) (log_events c.add_zeros.new.self) (zeroed c.args.at c.args.count c.args.stored) c.args.self.now.image.items c.args.self.now.reads c.add_zeros.ensures.events c.args.self.now.traced (rw length-replicate c.requires.range) (rw (length-replicate {A = ℕ} c.args.stored 0, length-replicate {A = ℕ} c.args.count 0) c.requires.stored)
 
 pub invariant_of-self-clause-writes : goal.invariant_of-self-clause-writes
 invariant_of-self-clause-writes c = list_all-push is_write c.args.self.now.pending.steps.items c.add_zeros.new.self.steps.items (Zero c.args.at c.args.count c.args.stored) c.add_zeros.ensures.steps c.args.self.now.writes refl
