@@ -1,18 +1,18 @@
 -- What happens to the content of a disk in memory, over lists alone.
-use Rattle.std.proofs.Common.{◌≡◌, ℕ, zero, suc, ◌+◌, ◌≤◌, Bool, true, List, [], ◌∷◌, ◌++◌, length, take, drop, refl, sym, ◌∙◌, ap, arith, append_assoc}
+use Rattle.std.proofs.Common.{◌≡◌, ℕ, ◌+◌, ◌≤◌, Bool, true, List, [], ◌∷◌, ◌++◌, length, take, drop, refl, sym, ◌∙◌, ap, arith, append_assoc}
 use Rattle.std.specs.List.{list_all}
 use Rattle.std.proofs.lemmas.List.{nil_from_length, append-nil}
 use Rattle.std.proofs.lemmas.Bool.Decides.{nat_tests}
 use Rattle.std.proofs.lemmas.List.Folds.{list_all-append}
 use Rattle.gp_disk.specs.declared.log.Step.{Step}
 use Rattle.gp_disk.specs.declared.log.Step.TheVariants.{Write, Zero, Sync}
-use Rattle.gp_disk.specs.Disk.{put, Outside}
+use Rattle.gp_disk.specs.Disk.{put}
 use Rattle.gp_disk.specs.History.{Range, Done, Wrote, Synced, Held, at_rest, happen, after_all}
 use Rattle.gp_disk.specs.Redone.{redone, ranges_of, struck}
-use Rattle.gp_disk.specs.Step.{written, zeroed, octets_of, events, is_write, is_within}
+use Rattle.gp_disk.specs.Step.{written, zeroed, events, is_write, is_within}
 use Rattle.gp_disk.specs.Traced.{AllTraced}
-use Rattle.gp_disk.proofs.Histories.{after_all-append, AllTraced-wrote, AllTraced-synced, AllTraced-rest}
-use Rattle.gp_disk.proofs.Ranges.{Outside-put, length-put}
+use Rattle.gp_disk.proofs.Histories.{after_all-append, AllTraced-wrote, AllTraced-rest}
+use Rattle.gp_disk.proofs.Ranges.{Outside-put}
 use Rattle.gp_disk.proofs.Replays.{seen-after_all}
 
 pub after_all-last : (held : Held) (xs : List Done) (x : Done) → after_all held (xs ++ x ∷ []) ≡ happen (after_all held xs) x

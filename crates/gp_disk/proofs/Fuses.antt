@@ -1,11 +1,8 @@
 -- Device calls one after the other, and what is told of their failures.
-use Rattle.std.proofs.Common.{◌≡◌, ℕ, ◌+◌, ◌-◌, ◌≤◌, ◌<◌, Bool, true, false, nat_le, refl, arith, if◌then◌else◌, sym, ap, ◌∙◌}
+use Rattle.std.proofs.Common.{◌≡◌, ℕ, ◌+◌, ◌-◌, ◌≤◌, Bool, true, false, nat_le, refl, arith, sym, ◌∙◌}
 use Rattle.std.proofs.lemmas.Bool.Decides.{nat_tests}
-use Rattle.gp_disk.specs.declared.arming.Ending.{Ending}
-use Rattle.gp_disk.specs.declared.arming.Ending.TheVariants.{Stop, Fault}
-use Rattle.gp_disk.specs.declared.arming.Arming.{Arming}
 use Rattle.gp_disk.specs.declared.arming.Arming.TheVariants.{Unarmed, Waits, Due, Spent}
-use Rattle.gp_disk.specs.Fuse.{Fuse, Untold, Running, Stopped, goes, blown, burnt, Foretold}
+use Rattle.gp_disk.specs.Fuse.{Fuse, Untold, Running, Stopped, burnt, Foretold}
 
 nat_le-sub : (m n calls : ℕ) → nat_le m calls ≡ true → nat_le n (calls - m) ≡ nat_le (m + n) calls
 nat_le-sub m n calls fits = grind (arith, nat_tests)

@@ -1,7 +1,7 @@
 -- A history that goes on.
-use Rattle.std.proofs.Common.{◌≡◌, ℕ, zero, suc, ◌+◌, ◌≤◌, ◌⊎◌, List, [], ◌∷◌, ◌++◌, length, refl, sym, ◌∙◌, ap, subst, inl, inr, ⊎_elim, arith}
+use Rattle.std.proofs.Common.{◌≡◌, ℕ, zero, suc, ◌≤◌, ◌⊎◌, List, [], ◌∷◌, ◌++◌, length, refl, sym, subst, inl, inr, ⊎_elim, arith}
 use Rattle.gp_disk.specs.Disk.{put, Outside}
-use Rattle.gp_disk.specs.History.{Range, Done, Wrote, Synced, Held, at_rest, happen, after_all, Replaced, MayLeave, LeftSince}
+use Rattle.gp_disk.specs.History.{Range, Done, Wrote, Synced, Held, happen, after_all, Replaced, MayLeave, LeftSince}
 use Rattle.gp_disk.specs.Traced.{AllTraced}
 
 pub after_all-append : (held : Held) (xs ys : List Done) → after_all held (xs ++ ys) ≡ after_all (after_all held xs) ys

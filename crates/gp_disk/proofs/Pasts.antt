@@ -1,7 +1,7 @@
 -- A disk's past that goes on: what a crash may leave then.
-use Rattle.std.proofs.Common.{◌≡◌, ℕ, ◌≤◌, List, [], ◌∷◌, ◌++◌, length, Some, refl, sym, ◌∙◌, ap, subst, arith, length-append}
-use Rattle.gp_disk.specs.Disk.{put, Outside, Same, Follows, Grows, Only}
-use Rattle.gp_disk.specs.History.{Range, Done, Wrote, Synced, Held, Past, at_rest, happen, after_all, held_after, lived, Replaced, MayLeave, LeftSince, PastLeft}
+use Rattle.std.proofs.Common.{◌≡◌, ℕ, ◌≤◌, List, [], length, Some, sym, ◌∙◌, ap, subst, arith, length-append}
+use Rattle.gp_disk.specs.Disk.{Same, Follows, Grows, Only}
+use Rattle.gp_disk.specs.History.{Range, Done, Wrote, Synced, Held, Past, at_rest, happen, held_after, lived, Replaced, MayLeave, PastLeft}
 use Rattle.gp_disk.specs.Traced.{LeftSince-now}
 use Rattle.gp_disk.specs.declared.content.Content.{Content}
 use Rattle.gp_disk.specs.Content.{past_of}

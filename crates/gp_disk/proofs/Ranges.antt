@@ -1,8 +1,8 @@
 -- What a write into an image leaves as it was.
-use Rattle.std.proofs.Common.{◌≡◌, ℕ, ◌+◌, ◌≤◌, ◌⊎◌, List, [], ◌∷◌, ◌++◌, length, take, drop, refl, sym, ◌∙◌, ap, subst, inl, inr, arith, append_assoc, length-append, length-drop, length-take, min}
-use Rattle.std.proofs.lemmas.List.{take_at, drop_at, take-append-le, append-nil, length-take-le, drop-drop, take_all, drop_all, drop-append-le}
+use Rattle.std.proofs.Common.{◌≡◌, ℕ, ◌+◌, ◌≤◌, List, ◌++◌, length, take, drop, refl, arith, append_assoc, length-append, length-drop, length-take}
+use Rattle.std.proofs.lemmas.List.{take_at, length-take-le}
 use Rattle.std.proofs.lemmas.Slice.{drop-append-drop}
-use Rattle.gp_disk.specs.Disk.{put, part, Outside}
+use Rattle.gp_disk.specs.Disk.{put, Outside}
 
 pub length-put : (at : ℕ) (octets image : List ℕ) → at + length octets ≤ length image → length (put at octets image) ≡ length image
 length-put at octets image fits = simp (length-append, length-drop, length-take) (omega arith)

@@ -4,10 +4,10 @@ use Rattle.std.proofs.lemmas.List.{take-take, drop_more, drop_all}
 use Rattle.std.specs.List.{list_all}
 use Rattle.gp_disk.specs.declared.log.Step.{Step}
 use Rattle.gp_disk.specs.declared.log.Step.TheVariants.{Write, Zero, Sync}
-use Rattle.gp_disk.specs.Disk.{part, put}
-use Rattle.gp_disk.specs.History.{Range, Done, Wrote, Synced, Held, at_rest, happen, after_all}
-use Rattle.gp_disk.specs.Step.{written, zeroed, octets_of, events, is_write}
-use Rattle.gp_disk.specs.Redone.{redone, ranges_of, filled, struck}
+use Rattle.gp_disk.specs.Disk.{put}
+use Rattle.gp_disk.specs.History.{Done, Wrote, Synced, Held, happen, after_all}
+use Rattle.gp_disk.specs.Step.{octets_of, events}
+use Rattle.gp_disk.specs.Redone.{redone, ranges_of, struck}
 
 pub redone-write : (at count stored : ℕ) (octets image : List ℕ) → stored ≤ count → redone image (events (Write at count stored ∷ []) octets) ≡ put at (take stored octets) image
 unfolding redone events

@@ -1,15 +1,15 @@
 -- What a crash leaves is one of the images that it may leave.
-use Rattle.std.proofs.Common.{◌≡◌, ℕ, ◌+◌, ◌-◌, ◌*◌, ◌/◌, ◌≤◌, Bool, true, List, [], ◌∷◌, ◌++◌, length, take, drop, map, replicate, refl, sym, ◌∙◌, ap, subst, arith, length-append, length-drop, length-take, if◌then◌else◌, ◌==◌, cond, nat_le, ◌&&◌}
+use Rattle.std.proofs.Common.{◌≡◌, ℕ, ◌+◌, ◌-◌, ◌/◌, ◌≤◌, true, List, [], ◌∷◌, ◌++◌, length, take, drop, map, replicate, refl, sym, ◌∙◌, ap, arith, length-append, length-drop, length-take, if◌then◌else◌, ◌==◌, nat_le}
 use Rattle.std.specs.List.{list_all}
 use Rattle.std.proofs.lemmas.Bool.{and_parts}
 use Rattle.std.proofs.lemmas.Bool.Decides.{nat_tests}
 use Rattle.std.proofs.lemmas.List.{length-map, length-replicate}
 use Rattle.gp_disk.specs.declared.log.Step.{Step}
 use Rattle.gp_disk.specs.declared.log.Step.TheVariants.{Write, Zero, Sync}
-use Rattle.gp_disk.specs.Disk.{part, put, Outside}
-use Rattle.gp_disk.specs.History.{Range, Done, Wrote, Synced, Held, at_rest, after_all, Replaced, MayLeave}
+use Rattle.gp_disk.specs.Disk.{part, put}
+use Rattle.gp_disk.specs.History.{Range, Done, Held, at_rest, after_all, Replaced, MayLeave}
 use Rattle.gp_disk.specs.Redone.{redone, ranges_of, filled, struck}
-use Rattle.gp_disk.specs.Step.{written, zeroed, events, is_write, is_within}
+use Rattle.gp_disk.specs.Step.{events, is_write, is_within}
 use Rattle.gp_disk.proofs.Contents.{after_all-settled, base-writes, pending-writes}
 use Rattle.gp_disk.proofs.Ranges.{Outside-put}
 

@@ -1,5 +1,5 @@
 -- What a disk in memory holds: its past, and how much of its room is used.
-use Rattle.std.specs.Prelude.{ℕ, List, ◌++◌, length}
+use Rattle.std.specs.Prelude.{ℕ, ◌++◌, length}
 use Rattle.gp_disk.specs.declared.content.Content.{Content}
 use Rattle.gp_disk.specs.History.{Past}
 use Rattle.gp_disk.specs.Log.{log_events}

@@ -1,5 +1,5 @@
 -- What the counts that a disk keeps tell.
-use Rattle.std.specs.Prelude.{ℕ, Bool, true, false}
+use Rattle.std.specs.Prelude.{ℕ}
 use Rattle.gp_disk.specs.declared.counts.Counts.{Counts}
 use Rattle.gp_disk.specs.Disk.{Tally}
 

@@ -1,5 +1,5 @@
 -- A disk: what a read gives, what a crash may leave, and the counts of its calls.
-use Rattle.std.specs.Prelude.{◌≡◌, ℕ, ◌+◌, ◌≤◌, ◌⊎◌, Bool, true, false, List, ◌++◌, length, take, drop, Option, Some}
+use Rattle.std.specs.Prelude.{◌≡◌, ℕ, ◌+◌, ◌⊎◌, Bool, true, false, List, ◌++◌, length, take, drop, Option, Some}
 use Rattle.gp_base.specs.Outside.{one_more}
 
 -- size: in octets

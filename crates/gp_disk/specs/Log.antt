@@ -1,5 +1,5 @@
 -- What a log tells.
-use Rattle.std.specs.Prelude.{List, vec_len}
+use Rattle.std.specs.Prelude.{List}
 use Rattle.gp_disk.specs.declared.log.Log.{Log}
 use Rattle.gp_disk.specs.History.{Done}
 use Rattle.gp_disk.specs.Step.{events}

@@ -1,5 +1,5 @@
 -- How a history lies in memory: a list of steps, and the octets of its writes one after the other.
-use Rattle.std.specs.Prelude.{◌≡◌, ℕ, ◌+◌, ◌≤◌, Bool, true, false, ◌&&◌, nat_le, List, [], ◌∷◌, length, take, drop, replicate}
+use Rattle.std.specs.Prelude.{ℕ, ◌+◌, Bool, true, false, ◌&&◌, nat_le, List, [], ◌∷◌, take, drop, replicate}
 use Rattle.gp_disk.specs.declared.log.Step.{Step}
 use Rattle.gp_disk.specs.declared.log.Step.TheVariants.{Write, Zero, Sync}
 use Rattle.gp_disk.specs.History.{Range, Done, Wrote, Synced}

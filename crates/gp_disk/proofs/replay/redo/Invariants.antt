@@ -1,4 +1,4 @@
-use Rattle.std.proofs.Common.{◌≡◌, ◌≤◌, true, length, drop}
+use Rattle.std.proofs.Common.{◌≡◌, true, length, drop}
 use Rattle.std.specs.List.{list_all}
 use Rattle.gp_disk.specs.Redone.{redone}
 use Rattle.gp_disk.specs.Step.{octets_of, events, is_within}

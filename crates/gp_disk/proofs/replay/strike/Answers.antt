@@ -1,9 +1,7 @@
-use Rattle.std.proofs.Common.{rules, ◌≡◌, ◌+◌, ◌≤◌, sym, ◌∙◌, ap, arith, length-drop, length}
+use Rattle.std.proofs.Common.{◌∙◌, arith, length-drop, length}
 use Rattle.std.proofs.lemmas.Grind.{common_steps}
-use Rattle.std.proofs.lemmas.List.{drop_all}
 use Rattle.gp_disk.specs.declared.log.Step.TheVariants.{Write}
-use Rattle.gp_disk.specs.Redone.{redone, ranges_of, struck}
-use Rattle.gp_disk.specs.Step.{octets_of, events, is_within}
+use Rattle.gp_disk.specs.Step.{is_within}
 use Rattle.gp_disk.proofs.Replays.{strike_more, octets_of-first, list_all-first, strike_all}
 use Rattle.gp_disk.proofs.replay.strike.Goals as goal
 

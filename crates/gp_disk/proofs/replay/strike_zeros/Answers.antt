@@ -1,4 +1,4 @@
-use Rattle.std.proofs.Common.{◌≡◌, ◌-◌, arith}
+use Rattle.std.proofs.Common.{arith}
 use Rattle.std.proofs.lemmas.Grind.{common_steps}
 use Rattle.gp_disk.proofs.Replays.{map-replicate}
 use Rattle.gp_disk.proofs.replay.strike_zeros.Goals as goal

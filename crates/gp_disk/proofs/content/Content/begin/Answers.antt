@@ -1,10 +1,7 @@
-use Rattle.std.proofs.Common.{rules, ◌≡◌, ◌+◌, ◌≤◌, true, List, [], ◌∷◌, ◌++◌, length, take, drop, replicate, refl, sym, ◌∙◌, ap, subst, ℕ, arith, length-take}
-use Rattle.std.proofs.lemmas.List.{length-replicate}
+use Rattle.std.proofs.Common.{◌≡◌, true, sym, subst, ℕ, arith}
 use Rattle.std.specs.List.{list_all}
-use Rattle.gp_disk.specs.declared.log.Step.TheVariants.{Write, Zero, Sync}
-use Rattle.gp_disk.specs.History.{Synced, Held, at_rest, after_all, lived}
 use Rattle.gp_disk.specs.Log.{log_events}
-use Rattle.gp_disk.specs.Step.{written, zeroed, events, is_write, is_within}
+use Rattle.gp_disk.specs.Step.{is_within}
 use Rattle.gp_disk.proofs.Contents.{held-begun, traced-begun, certain-none, none_pending-none}
 use Rattle.gp_disk.proofs.content.Content.begin.Goals as goal
 use Rattle.gp_disk.proofs.Steps.{length-events}

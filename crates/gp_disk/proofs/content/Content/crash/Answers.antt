@@ -1,10 +1,8 @@
 use Rattle.std.specs.List.{list_all}
-use Rattle.std.proofs.Common.{subst, ℕ, rules, ◌≡◌, ◌+◌, ◌≤◌, true, List, [], ◌∷◌, ◌++◌, length, take, drop, replicate, refl, sym, ◌∙◌, ap, arith, length-take}
-use Rattle.std.proofs.lemmas.List.{length-replicate}
-use Rattle.gp_disk.specs.declared.log.Step.TheVariants.{Write, Zero, Sync}
-use Rattle.gp_disk.specs.History.{Synced, Held, at_rest, after_all, lived}
+use Rattle.std.proofs.Common.{subst, ℕ, ◌≡◌, true, sym, ◌∙◌}
+use Rattle.gp_disk.specs.History.{at_rest}
 use Rattle.gp_disk.specs.Log.{log_events}
-use Rattle.gp_disk.specs.Step.{written, zeroed, events, is_write, is_within}
+use Rattle.gp_disk.specs.Step.{is_within}
 use Rattle.gp_disk.proofs.Contents.{struck-crashed, reads-none, traced-none, certain-none, none_pending-none}
 use Rattle.gp_disk.proofs.Strikes.{left-crashed}
 use Rattle.gp_disk.proofs.content.Content.crash.Goals as goal

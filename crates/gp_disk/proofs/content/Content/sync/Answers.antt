@@ -1,9 +1,8 @@
-use Rattle.std.proofs.Common.{rules, ◌≡◌, ◌+◌, ◌≤◌, true, List, [], ◌∷◌, ◌++◌, length, take, drop, replicate, refl, sym, ◌∙◌, ap, arith, length-take}
-use Rattle.std.proofs.lemmas.List.{length-replicate}
-use Rattle.gp_disk.specs.declared.log.Step.TheVariants.{Write, Zero, Sync}
-use Rattle.gp_disk.specs.History.{Synced, Held, at_rest, after_all, lived}
+use Rattle.std.proofs.Common.{◌++◌, length, refl}
+use Rattle.gp_disk.specs.declared.log.Step.TheVariants.{Sync}
+use Rattle.gp_disk.specs.History.{at_rest}
 use Rattle.gp_disk.specs.Log.{log_events}
-use Rattle.gp_disk.specs.Step.{written, zeroed, events, is_write, is_within}
+use Rattle.gp_disk.specs.Step.{is_within}
 use Rattle.gp_disk.proofs.Contents.{settled-synced, history-synced, certain-synced, none_pending-synced, reads-synced, list_all-push, list_all-both}
 use Rattle.gp_disk.proofs.content.Content.sync.Goals as goal
 use Rattle.gp_disk.proofs.Histories.{AllTraced-synced}

@@ -1,4 +1,4 @@
-use Rattle.std.proofs.Common.{rules, ◌≡◌, ◌+◌, ◌≤◌, length, take, arith, length-take, refl}
+use Rattle.std.proofs.Common.{length, arith, length-take, refl}
 use Rattle.gp_disk.specs.declared.log.Step.TheVariants.{Write}
 use Rattle.gp_disk.specs.History.{at_rest}
 use Rattle.gp_disk.specs.Log.{log_events}

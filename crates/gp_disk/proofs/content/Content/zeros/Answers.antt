@@ -1,9 +1,6 @@
-use Rattle.std.proofs.Common.{rules, ◌≡◌, ◌+◌, ◌≤◌, true, List, [], ◌∷◌, ◌++◌, length, take, drop, replicate, refl, sym, ◌∙◌, ap, arith, length-take}
-use Rattle.std.proofs.lemmas.List.{length-replicate}
-use Rattle.gp_disk.specs.declared.log.Step.TheVariants.{Write, Zero, Sync}
-use Rattle.gp_disk.specs.History.{Synced, Held, at_rest, after_all, lived}
+use Rattle.std.proofs.Common.{sym, ◌∙◌}
+use Rattle.gp_disk.specs.History.{at_rest}
 use Rattle.gp_disk.specs.Log.{log_events}
-use Rattle.gp_disk.specs.Step.{written, zeroed, events, is_write, is_within}
 use Rattle.gp_disk.proofs.Contents.{reads-none, traced-none, certain-none, none_pending-none}
 use Rattle.gp_disk.proofs.content.Content.zeros.Goals as goal
 

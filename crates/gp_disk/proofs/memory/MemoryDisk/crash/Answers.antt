@@ -1,4 +1,3 @@
-use Rattle.std.proofs.Common.{◌≡◌, ℕ, List, length, replicate, refl, sym, ◌∙◌, subst, ap, arith}
 use Rattle.gp_disk.specs.Content.{past_of}
 use Rattle.gp_disk.proofs.Pasts.{held-none, same-none}
 use Rattle.gp_disk.proofs.memory.MemoryDisk.crash.Goals as goal

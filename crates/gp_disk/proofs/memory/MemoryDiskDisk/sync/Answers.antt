@@ -1,10 +1,6 @@
-use Rattle.std.proofs.Common.{◌≡◌, ℕ, List, length, refl, sym, ◌∙◌, subst, arith}
-use Rattle.std.proofs.lemmas.List.{length-replicate}
 use Rattle.gp_disk.specs.Content.{past_of}
-use Rattle.gp_disk.specs.Disk.{Follows, Same}
-use Rattle.gp_disk.specs.History.{Wrote, Synced, MayLeave, PastLeft, held_after}
-use Rattle.gp_disk.specs.Step.{written, zeroed}
-use Rattle.gp_disk.proofs.Pasts.{held-lived, follows-wrote, grows-lived, same-begun, only-at_rest, begun_before, certain_synced}
+use Rattle.gp_disk.specs.History.{Synced}
+use Rattle.gp_disk.proofs.Pasts.{held-lived, grows-lived, begun_before, certain_synced}
 use Rattle.gp_disk.proofs.memory.MemoryDiskDisk.sync.Goals as goal
 
 pub returns-clause-held : goal.returns-clause-held

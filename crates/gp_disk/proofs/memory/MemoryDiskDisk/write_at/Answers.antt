@@ -1,10 +1,7 @@
-use Rattle.std.proofs.Common.{◌≡◌, ℕ, List, length, refl, sym, ◌∙◌, subst, arith}
-use Rattle.std.proofs.lemmas.List.{length-replicate}
 use Rattle.gp_disk.specs.Content.{past_of}
-use Rattle.gp_disk.specs.Disk.{Follows, Same}
-use Rattle.gp_disk.specs.History.{Wrote, Synced, MayLeave, PastLeft, held_after}
-use Rattle.gp_disk.specs.Step.{written, zeroed}
-use Rattle.gp_disk.proofs.Pasts.{held-lived, follows-wrote, grows-lived, same-begun, only-at_rest, begun_before}
+use Rattle.gp_disk.specs.History.{Wrote}
+use Rattle.gp_disk.specs.Step.{written}
+use Rattle.gp_disk.proofs.Pasts.{held-lived, follows-wrote, grows-lived, begun_before}
 use Rattle.gp_disk.proofs.memory.MemoryDiskDisk.write_at.Goals as goal
 
 pub returns-clause-held : goal.returns-clause-held
