@@ -1,3 +1,4 @@
+pub mod Bodies
 pub mod LineLemmas
 pub mod Outcomes
 pub mod Runs

@@ -1,5 +1,5 @@
 -- What is listed for a line of a capture.
-use Rattle.std.specs.Prelude.{ℕ, Bool, true, false, List, [], ◌∷◌, ◌++◌, Option, Result, Ok, Err, codes, decimal}
+use Rattle.std.specs.Prelude.{ℕ, ◌==◌, if◌then◌else◌, Bool, true, false, List, [], ◌∷◌, ◌++◌, Option, Result, Ok, Err, codes, decimal}
 use Rattle.std.specs.Option.{option_map, option_map_or}
 use Rattle.std.specs.Int.{w16, w32, to_be_bytes}
 use Rattle.hex.specs.Hex.{encode_upper}
@@ -9,7 +9,13 @@ use Rattle.gp_frames.specs.declared.frame.Gpdf.{Gpdf}
 use Rattle.gp_frames.specs.declared.frame.Mpdu.{Mpdu}
 use Rattle.gp_frames.specs.declared.frame.FrameReason.{FrameReason}
 use Rattle.gp_frames.specs.declared.frame.FrameReason.TheVariants as reason
-use Rattle.gp_frames.specs.Frame.{extension}
+use Rattle.gp_base.specs.Field.{octet_at}
+use Rattle.gp_frames.specs.Frame.{extension, level_of}
+use Rattle.gp_commands.specs.declared.command.GpdCommand.{GpdCommand}
+use Rattle.gp_commands.specs.declared.command.GpdCommand.TheVariants.{Plain, Move, Step, Vector, Report, Commissioning, Reply, ChannelRequest, ChannelConfig, Other}
+use Rattle.gp_commands.specs.declared.command.CommandReason.{CommandReason}
+use Rattle.gp_commands.specs.declared.command.CommandReason.TheVariants as command
+use Rattle.gp_commands.specs.Command.{reading as read_command}
 use Rattle.gp_frames.specs.Reading.{reading}
 use Rattle.gp_script.specs.declared.capture.Capture.{Capture}
 use Rattle.gp_script.specs.declared.capture.Capture.TheVariants.{Frame, Message}
@@ -81,9 +87,51 @@ mic_text mic = codes " mic=" ++ or_dash encode_upper mic
 unfoldable pub header_text : Gpdf → List ℕ
 header_text frame = auto_text frame.auto ++ ext_text frame.ext ++ src_text frame.src ++ counter_text frame.counter
 
--- the command and the MIC
+-- the name of a variant
+abbrev pub variant_name : GpdCommand → List ℕ
+variant_name (Plain id rest) = codes "Plain"
+variant_name (Move id rate rest) = codes "Move"
+variant_name (Step id size time rest) = codes "Step"
+variant_name (Vector id value rest) = codes "Vector"
+variant_name (Report cluster records) = codes "Report"
+variant_name (Commissioning command) = codes "Commissioning"
+variant_name (Reply command) = codes "Reply"
+variant_name (ChannelRequest value rest) = codes "ChannelRequest"
+variant_name (ChannelConfig value rest) = codes "ChannelConfig"
+variant_name (Other id rest) = codes "Other"
+
+-- the name of a reason why octets are no command
+abbrev pub command_reason_name : CommandReason → List ℕ
+command_reason_name command.Empty = codes "Empty"
+command_reason_name (command.Short place) = codes "Short"
+command_reason_name (command.ValueKind place) = codes "ValueKind"
+command_reason_name command.ReservedLevel = codes "ReservedLevel"
+command_reason_name command.ReservedKeyKind = codes "ReservedKeyKind"
+
+-- the place of the octet with level and key type: 3 in a Commissioning, whose identifier is E0, and 1 in a Reply
+abbrev pub keying_place : List ℕ → ℕ
+keying_place body = if octet_at body 0 == 0xE0 then 3 else 1
+
+-- the place of a reason in a command
+abbrev pub command_reason_place : List ℕ → CommandReason → ℕ
+command_reason_place body command.Empty = 0
+command_reason_place body (command.Short place) = place
+command_reason_place body (command.ValueKind place) = place
+command_reason_place body command.ReservedLevel = keying_place body
+command_reason_place body command.ReservedKeyKind = keying_place body
+
+-- what a command reads as: its variant, or the reason why it is none and its place
+unfoldable pub command_text : List ℕ → Result GpdCommand CommandReason → List ℕ
+command_text body (Ok command) = variant_name command
+command_text body (Err reason) = command_reason_name reason ++ codes ":" ++ decimal (command_reason_place body reason)
+
+-- the body of a frame at level 3 isn't in clear, and isn't read
+unfoldable pub read_text : Gpdf → List ℕ
+read_text frame = codes " read=" ++ (if level_of frame == 3 then codes "-" else command_text frame.body (read_command frame.body))
+
+-- the command and the MIC, what the command reads as, and whether the MIC is right, which isn't told without a key
 unfoldable pub body_text : Gpdf → List ℕ
-body_text frame = (codes " body=" ++ encode_upper frame.body) ++ mic_text frame.mic
+body_text frame = (codes " body=" ++ encode_upper frame.body) ++ mic_text frame.mic ++ read_text frame ++ codes " tag=-"
 
 -- a frame that was read
 unfoldable pub frame_text : Mpdu → List ℕ

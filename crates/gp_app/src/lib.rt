@@ -13,3 +13,6 @@ mod writing;
 
 pub use running::run;
 pub use status::{DiskReason, Status};
+
+#[cfg(test)]
+mod tests;

@@ -2,12 +2,14 @@
 
 ghost use Rattle.std.specs.Prelude.{◌≡◌, ℕ, ◌≤◌, List, Option, [], ◌∷◌, ◌++◌, Some, None, length, IfSome, OnOk, OnErr, MatchResult};
 ghost use Rattle.std.specs.Option.{IsSomeAnd};
-ghost use Rattle.gp_frames.specs.Frame.{extension};
+ghost use Rattle.gp_frames.specs.Frame.{extension, level_of};
+ghost use Rattle.gp_commands.specs.Command.{reading as read_command};
 ghost use Rattle.gp_frames.specs.Reading.{reading};
-ghost use Rattle.gp_app.specs.Listing.{kind_text, refusal_text, mac_text, auto_text, ext_text, src_text, counter_text, mic_text, header_text, body_text, frame_text, air_text, capture_text, listing};
+ghost use Rattle.gp_app.specs.Listing.{kind_text, refusal_text, mac_text, auto_text, ext_text, src_text, counter_text, mic_text, variant_name, command_reason_name, command_reason_place, keying_place, command_text, read_text, header_text, body_text, frame_text, air_text, capture_text, listing};
 
 use crate::text::{push_field, push_hex, push_number, push_text};
 use gp_base::Src;
+use gp_commands::{CommandReason, GpdCommand, read};
 use gp_frames::{Ext, FrameReason, Gpdf, Mpdu, decode};
 use gp_script::{Capture, read_capture};
 use std::alloc::AllocError;
@@ -97,7 +99,8 @@ fn named(reason: FrameReason) -> (&'static str, u8)
 
 #[tactic(auto, unfolding(crate::specs::Listing::frame_text))]
 fn push_frame(text: &mut Vec<u8>, mpdu: &Mpdu) -> Result<(), AllocError>
-    requires { IfSome mpdu.now.frame.ext (λ ext. ext.level ≤ 3) }
+    requires level { IfSome mpdu.now.frame.ext (λ ext. ext.level ≤ 3) }
+    requires body { length mpdu.now.frame.body ≤ 117 }
     ensures { OnOk result (text.new.items ≡ text.old.items ++ frame_text mpdu.now) }
 {
     push_mac(text, mpdu)?;
@@ -190,10 +193,92 @@ fn push_counter(text: &mut Vec<u8>, counter: Option<u32>) -> Result<(), AllocErr
 
 #[tactic(auto, unfolding(crate::specs::Listing::body_text))]
 fn push_body(text: &mut Vec<u8>, frame: &Gpdf) -> Result<(), AllocError>
+    requires { length frame.now.body ≤ 117 }
     ensures { OnOk result (text.new.items ≡ text.old.items ++ body_text frame.now) }
 {
     push_field(text, " body=", frame.body.as_slice())?;
-    push_mic(text, &frame.mic)
+    push_mic(text, &frame.mic)?;
+    push_read(text, frame)?;
+    push_text(text, " tag=-")
+}
+
+#[tactic(auto, unfolding(crate::specs::Listing::read_text))]
+fn push_read(text: &mut Vec<u8>, frame: &Gpdf) -> Result<(), AllocError>
+    requires { length frame.now.body ≤ 117 }
+    ensures { OnOk result (text.new.items ≡ text.old.items ++ read_text frame.now) }
+{
+    push_text(text, " read=")?;
+    if level(frame) == 3 {
+        return push_text(text, "-");
+    }
+    push_command(text, frame.body.as_slice())
+}
+
+fn level(frame: &Gpdf) -> u8
+    ensures { result ≡ level_of frame.now }
+{
+    match frame.ext {
+        Some(ext) => ext.level,
+        None => 0,
+    }
+}
+
+#[tactic(auto, unfolding(crate::specs::Listing::command_text))]
+fn push_command(text: &mut Vec<u8>, body: &[u8]) -> Result<(), AllocError>
+    requires { length body.now ≤ 117 }
+    ensures { OnOk result (text.new.items ≡ text.old.items ++ command_text body.now (read_command body.now)) }
+{
+    match read(body) {
+        Ok(command) => push_text(text, variant(&command)),
+        Err(reason) => {
+            let (name, place) = named_in_command(body, reason);
+            push_text(text, name)?;
+            push_text(text, ":")?;
+            push_number(text, u64::from(place))
+        }
+    }
+}
+
+// The name of a variant.
+fn variant(command: &GpdCommand) -> &'static str
+    ensures { result.now ≡ variant_name command.now }
+{
+    match command {
+        GpdCommand::Plain { .. } => "Plain",
+        GpdCommand::Move { .. } => "Move",
+        GpdCommand::Step { .. } => "Step",
+        GpdCommand::Vector { .. } => "Vector",
+        GpdCommand::Report { .. } => "Report",
+        GpdCommand::Commissioning(_) => "Commissioning",
+        GpdCommand::Reply(_) => "Reply",
+        GpdCommand::ChannelRequest { .. } => "ChannelRequest",
+        GpdCommand::ChannelConfig { .. } => "ChannelConfig",
+        GpdCommand::Other { .. } => "Other",
+    }
+}
+
+// The name of a reason why octets are no command, and its place in them.
+fn named_in_command(body: &[u8], reason: CommandReason) -> (&'static str, u8)
+    ensures name { result.0.now ≡ command_reason_name reason }
+    ensures place { result.1 ≡ command_reason_place body.now reason }
+{
+    match reason {
+        CommandReason::Empty => ("Empty", 0),
+        CommandReason::Short { place } => ("Short", place),
+        CommandReason::ValueKind { place } => ("ValueKind", place),
+        CommandReason::ReservedLevel => ("ReservedLevel", keying_octet(body)),
+        CommandReason::ReservedKeyKind => ("ReservedKeyKind", keying_octet(body)),
+    }
+}
+
+// The place of the octet with level and key type.
+fn keying_octet(body: &[u8]) -> u8
+    ensures { result ≡ keying_place body.now }
+{
+    match body.first() {
+        Some(0xE0) => 3,
+        _ => 1,
+    }
 }
 
 #[tactic(auto, unfolding(crate::specs::Listing::mic_text))]

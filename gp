@@ -1,0 +1,59 @@
+#!/usr/bin/env bash
+# Runs the program `gp`: the proved one where it has been made, and rebuilt where a source is newer. Where it
+# has not been made yet, the sources are run as they are, unproved, and a line on standard error says so.
+set -u
+top=$(cd "$(dirname "$0")" && pwd)
+crate="$top/crates/gp_cli"
+program="$crate/out/gp_cli"
+
+usage() {
+  cat <<'PAGE'
+gp - Zigbee Green Power, proved
+
+  gp decode < CAPTURE      lists the frames of a capture, one line each
+  gp --help                prints this page
+
+A capture has one frame a line: the octets of an MPDU without FCS in hexadecimal digits of either case, at most
+512 of them. Lines end with LF; a CR before it is dropped; a last line without LF counts where it isn't empty.
+There are at most 1,000,000 lines of at most 1,024 octets.
+
+A frame is listed as
+  KIND seq=XX pan=XXXX dest=XXXX auto=B ext=XX src=XXXXXXXX counter=N body=HEX mic=XXXXXXXX
+where KIND is data or maintenance, an absent field is '-', and the counter is decimal. What is no frame is listed as
+  bad REASON PLACE
+with the first fault from the left and its place: TooLong, Short, MacForm, FrameKind, Version, AppId, LevelOne,
+SecuredMaintenance or NoCommand.
+
+Exit statuses, with their text on standard error after 'gp: ':
+  0  all of the input was read, and all of the output written
+  1  bad line N: REASON      the line is refused; the lines before it are listed
+  2  usage                   the words are none of the above
+  3  read fault              standard input failed
+  4  write fault             standard output failed
+  5  disk fault              the disk failed
+  6  no memory               memory was asked for and not found
+  7  disk refused: REASON    the disk is refused
+  8  worn at N               the disk takes no more changes
+  9  too long                there are too many lines, or a line is too wide
+PAGE
+}
+
+if [ $# -eq 1 ] && { [ "$1" = --help ] || [ "$1" = -h ]; }; then
+  usage
+  exit 0
+fi
+
+# Whether the proved program is there and no source is newer.
+is_current() {
+  [ -x "$program" ] && [ -z "$(find "$top/crates.txt" "$top"/crates/*/src "$top"/crates/*/specs "$top"/crates/*/proofs -newer "$program" -type f 2>/dev/null | head -n 1)" ]
+}
+
+if [ -x "$program" ] && ! is_current; then
+  echo "gp: a source is newer than the program; it is proved and built again" >&2
+  (cd "$crate" && rt run -- decode < /dev/null > /dev/null 2>&1) || true
+fi
+if is_current; then
+  exec "$program" "$@"
+fi
+echo "gp: this run is of the sources, unproved; 'rt run -- decode </dev/null' in crates/gp_cli makes the proved program" >&2
+cd "$crate" && exec rt try -- "$@" 2> >(grep '^gp:' >&2)
