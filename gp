@@ -19,7 +19,10 @@ There are at most 1,000,000 lines of at most 1,024 octets.
 
 A frame is listed as
   KIND seq=XX pan=XXXX dest=XXXX auto=B ext=XX src=XXXXXXXX counter=N body=HEX mic=XXXXXXXX
-where KIND is data or maintenance, an absent field is '-', and the counter is decimal. What is no frame is listed as
+    read=WORD tag=-
+on one line, where KIND is data or maintenance, an absent field is '-', and the counter is decimal. read is what the
+command reads as: Plain, Move, Step, Vector, Report, Commissioning, Reply, ChannelRequest, ChannelConfig or Other; or
+REASON:PLACE with Empty, Short, ValueKind, ReservedLevel or ReservedKeyKind; or '-' at level 3, which isn't in clear. What is no frame is listed as
   bad REASON PLACE
 with the first fault from the left and its place: TooLong, Short, MacForm, FrameKind, Version, AppId, LevelOne,
 SecuredMaintenance or NoCommand.

@@ -6,7 +6,7 @@ use std::test::Fail;
 const FRAME: &str = "01080AFFFFFFFF8C002143658720";
 
 const LISTING: &str =
-    "data seq=0A pan=FFFF dest=FFFF auto=0 ext=00 src=87654321 counter=- body=20 mic=-\n";
+    "data seq=0A pan=FFFF dest=FFFF auto=0 ext=00 src=87654321 counter=- body=20 mic=- read=Plain tag=-\n";
 
 // A run over an input in pieces of so many octets, with calls that are to fail.
 #[derive(Clone, Copy)]
@@ -44,7 +44,7 @@ fn listings(rt: HostRuntime) -> Result<(), Fail> {
     let longest = format!(in rt.alloc(); "010800FFFFFFFF8C302143658702000000{body}AABBCCDD")?;
     let longer = format!(in rt.alloc(); "{longest}00")?;
     let longest_listing = format!(in rt.alloc();
-        "data seq=00 pan=FFFF dest=FFFF auto=0 ext=30 src=87654321 counter=2 body={body} mic=AABBCCDD\n"
+        "data seq=00 pan=FFFF dest=FFFF auto=0 ext=30 src=87654321 counter=2 body={body} mic=AABBCCDD read=Plain tag=-\n"
     )?;
     let cases = [
         (FRAME, LISTING),
