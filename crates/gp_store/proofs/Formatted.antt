@@ -1,0 +1,111 @@
+-- What each write of a formatting makes of an image.
+use Rattle.std.proofs.Common.{◌≡◌, ◌⊎◌, inl, inr, ⊎_elim, ℕ, ◌+◌, ◌<◌, ◌≤◌, Bool, true, false, List, [], ◌∷◌, ◌++◌, length, take, drop, Option, Some, None, option_map, refl, sym, ◌∙◌, ap, subst, arith, slice_index, codes}
+use Rattle.std.proofs.lemmas.Bool.{cases_lt, cases_eq}
+use Rattle.std.proofs.lemmas.List.{take-take}
+use Rattle.gp_disk.specs.Disk.{part, put}
+use Rattle.gp_store.specs.Slots.{newer, newest}
+use Rattle.gp_store.specs.Image.{OPEN, IsFormatted, HoldsRow, HoldsRows, slots, format_1, gate_at}
+use Rattle.gp_store.specs.Writes.{GrowsBy, Becomes}
+use Rattle.gp_store.specs.Formatting.{SameGate, Cleared, Named, SameBehind, Opened, LeavesNoRows}
+use Rattle.gp_store.proofs.Parts.{octet-outside, part-put, length-put, Outside-put, octet-part}
+use Rattle.gp_store.proofs.Images.{slots_at_closed}
+use Rattle.gp_store.proofs.Grows.{becomes_put, became_from}
+use Rattle.gp_store.proofs.Recovered.{past}
+
+pub name_written : (octets : List ℕ) (size : ℕ) (image new : Option (List ℕ)) → length octets ≡ 63 → part 0 7 octets ≡ codes "GPSINK" ++ 1 ∷ [] → ((d : List ℕ) → image ≡ Some d → length d ≡ size) → 204800 ≤ size → new ≡ option_map (put 1 octets) image → Becomes Named image new
+name_written octets size image new sixty name fits within is = becomes_put Named (put 1 octets) image new is (λ d e. named d (fits d e))
+  where
+    named : (d : List ℕ) → length d ≡ size → Named d (put 1 octets d)
+    named d long =
+        let f : 1 + length octets ≤ length d = omega (arith, sixty, long, within) in
+        let o = Outside-put 1 octets d f in
+        record {
+          gate = octet-outside 1 (length octets) d (put 1 octets d) 0 o (inl (omega arith));
+          size = length-put 1 octets d f;
+          name =
+              sym (take-take 7 (length octets) (drop 1 (put 1 octets d)) (omega (arith, sixty))) ∙ ap (λ (l : List ℕ). take 7 l) (part-put 1 octets d f) ∙ name;
+          others = λ i from. octet-outside 1 (length octets) d (put 1 octets d) i o (inr (omega (arith, sixty, from)));
+        }
+
+-- the header as a list
+header : (c : List ℕ) → 0 < length c → part 0 8 c ≡ slice_index c 0 ∷ part 1 7 c
+header [] h = absurd (omega arith)
+header (x ∷ xs) h = refl
+
+-- an image whose header's gate is closed isn't formatted
+pub closed_unformatted : (c : List ℕ) → (slice_index c 0 ≡ OPEN → ⊥) → IsFormatted c → ⊥
+closed_unformatted c closed formatted = closed (sym (octet-part 0 8 c (omega arith)) ∙ ap (λ (l : List ℕ). slice_index l 0) formatted)
+
+-- an image with this header, and zeros behind it, holds no rows
+module _ (c : List ℕ) (gate : slice_index c 0 ≡ OPEN) (long : 204800 ≤ length c) (name : part 1 7 c ≡ codes "GPSINK" ++ 1 ∷ []) (zeros : (i : ℕ) → 64 ≤ i → i < 204800 → slice_index c i ≡ 0) where
+  no_slot : (r : ℕ) (s : Bool) → slots format_1 c r s ≡ None
+  no_slot r s = elim (cases_lt r 1024) [
+    | inl less ↦ slots_at_closed format_1 c r s (λ is. let zero = zeros (gate_at format_1 r s) (low r s) (high r s less) in omega (arith, zero, is))
+    | inr most ↦ past c r s most
+  ]
+    where
+      low : (r : ℕ) (s : Bool) → 64 ≤ gate_at format_1 r s
+      low r true = omega arith
+      low r false = omega arith
+
+      high : (r : ℕ) (s : Bool) → r < 1024 → gate_at format_1 r s < 204800
+      high r true h = omega arith
+      high r false h = omega arith
+
+  none_is_not : (x : List ℕ) → None ≡ Some x → ⊥
+  none_is_not x h = cc
+
+  no_newest : (r : ℕ) → newest (slots format_1 c) r ≡ None
+  no_newest r = ap (λ (x : Option (List ℕ)). newer x (slots format_1 c r true)) (no_slot r false) ∙ no_slot r true
+
+  pub no_rows : HoldsRows c []
+  no_rows = record {
+    size = long;
+    formatted = header c (omega (arith, long)) ∙ ap (λ (x : ℕ). x ∷ part 1 7 c) gate ∙ ap (λ (l : List ℕ). OPEN ∷ l) name;
+    consistent = λ r s o e. absurd (none_is_not o (sym (no_slot r s) ∙ e));
+    each = λ r. subst (λ x. HoldsRow 0 x None) (sym (no_newest r)) tt;
+  }
+
+-- after the octets were cleared and the header written, an image that agrees behind the header's gate
+pub behind_no_rows : (a b c d : List ℕ) → Cleared 204800 a b → Named b c → SameBehind c d → slice_index d 0 ≡ OPEN → 204800 ≤ length a → HoldsRows d []
+behind_no_rows a b c d cleared named behind gate long =
+    no_rows d gate (omega (arith, long, cleared.size, named.size, behind.size)) (behind.name ∙ named.name)
+    (λ i from to. behind.others i (omega (arith, from)) ∙ named.others i from ∙ cleared.zeros i (omega (arith, from)) to)
+
+-- whatever that gate is
+pub behind_either : (a b c d : List ℕ) → Cleared 204800 a b → Named b c → SameBehind c d → 204800 ≤ length a → (IsFormatted d → ⊥) ⊎ HoldsRows d []
+behind_either a b c d cleared named behind long = elim (cases_eq (slice_index d 0) OPEN) [
+  | inl is ↦ inr (behind_no_rows a b c d cleared named behind is long)
+  | inr other ↦ inl (closed_unformatted d other)
+]
+
+-- all the writes of a formatting, one after another
+module _ (first second third : Option (List ℕ)) (size : ℕ) (fits : (d : List ℕ) → first ≡ Some d → length d ≡ size) (large : 204800 ≤ size) (closed : (d : List ℕ) → first ≡ Some d → slice_index d 0 ≡ OPEN → ⊥)
+    (cleared : Becomes (Cleared 204800) first second) (named : Becomes Named second third) where
+  -- the images before
+  chain : (d : List ℕ) → third ≡ Some d → (a : List ℕ) × (b : List ℕ) × (first ≡ Some a) × Cleared 204800 a b × Named b d
+  chain d is =
+      let b = became_from Named second third d named is in
+      let a = became_from (Cleared 204800) first second b.0 cleared b.1 in
+      (a.0, b.0, a.1, a.2, b.2)
+
+  long : (a : List ℕ) → first ≡ Some a → 204800 ≤ length a
+  long a is = let f = fits a is in omega (arith, f, large)
+
+  pub opened_no_rows : (last : Option (List ℕ)) → Becomes Opened third last → (d : List ℕ) → last ≡ Some d → HoldsRows d []
+  opened_no_rows last opened d is =
+      let c = became_from Opened third last d opened is in
+      let f = chain c.0 c.1 in
+      behind_no_rows f.0 f.1 c.0 d f.3 f.4 c.2.behind c.2.gate (long f.0 f.2)
+
+  unformatted : (a c : List ℕ) → first ≡ Some a → slice_index c 0 ≡ slice_index a 0 → IsFormatted c → ⊥
+  unformatted a c is same = closed_unformatted c (λ gate. closed a is (sym same ∙ gate))
+
+  pub empty_since : (l0 l1 l2 l3 : List ℕ → Type 0) → GrowsBy SameGate first l0 l1 → GrowsBy SameGate second l1 l2 → GrowsBy SameBehind third l2 l3 → (c : List ℕ) → l3 c → LeavesNoRows l0 c
+  empty_since l0 l1 l2 l3 g h k c left = ⊎_elim (λ was. named_since was) (λ t. let f = chain t.0 t.1 in inr (behind_either f.0 f.1 t.0 c f.3 f.4 t.2 (long f.0 f.2))) (k.none c left)
+    where
+      cleared_since : l1 c → LeavesNoRows l0 c
+      cleared_since left = ⊎_elim (λ was. inl was) (λ t. inr (inl (unformatted t.0 c t.1 t.2))) (g.none c left)
+
+      named_since : l2 c → LeavesNoRows l0 c
+      named_since left = ⊎_elim (λ was. cleared_since was) (λ t. let a = became_from (Cleared 204800) first second t.0 cleared t.1 in inr (inl (unformatted a.0 c a.1 (t.2 ∙ a.2.gate)))) (h.none c left)

@@ -1,0 +1,17 @@
+pub mod Parts
+pub mod Images
+pub mod Torn
+pub mod Consistent
+pub mod RowsHeld
+pub mod Commits
+pub mod Stored
+pub mod NewAmong
+pub mod ReadOn
+pub mod SlotRead
+pub mod Recovered
+pub mod Formatted
+pub mod AtEnd
+pub mod OneRow
+pub mod Spelling
+pub mod Grows
+pub mod Rewriting

@@ -1,0 +1,14 @@
+use Rattle.std.proofs.lemmas.Result.{on_ok_weaker}
+use Rattle.gp_store.proofs.Formatted.{opened_no_rows, empty_since}
+use Rattle.gp_store.proofs.formatting.write_empty.Goals as goal
+
+pub returns-clause-since : goal.returns-clause-since
+returns-clause-since g c =
+    empty_since (g.D.Disk.image c.args.disk.now) (g.D.Disk.image c.clear.new.disk) (g.D.Disk.image c.name.new.disk) (g.D.Disk.tally c.args.disk.now).size (g.met.D.Disk.fits c.args.disk.now) c.requires.size c.requires.closed
+    c.in_ok-clear.ensures.written c.in_ok-name.ensures.written (g.D.Disk.left c.args.disk.now) (g.D.Disk.left c.clear.new.disk) (g.D.Disk.left c.name.new.disk) (g.D.Disk.left c.open.new.disk) c.clear.ensures.since c.name.ensures.since c.open.ensures.since
+
+pub returns-clause-written : goal.returns-clause-written
+returns-clause-written g c =
+    on_ok_weaker c.open.result
+    (opened_no_rows (g.D.Disk.image c.args.disk.now) (g.D.Disk.image c.clear.new.disk) (g.D.Disk.image c.name.new.disk) (g.D.Disk.tally c.args.disk.now).size (g.met.D.Disk.fits c.args.disk.now) c.requires.size c.requires.closed
+    c.in_ok-clear.ensures.written c.in_ok-name.ensures.written (g.D.Disk.image c.open.new.disk)) c.open.ensures.written

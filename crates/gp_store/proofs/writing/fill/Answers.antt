@@ -1,0 +1,14 @@
+use Rattle.std.proofs.lemmas.Result.{on_ok_weaker}
+use Rattle.gp_store.proofs.Rewriting.{fill_since, fill_written}
+use Rattle.gp_store.proofs.writing.fill.Goals as goal
+
+pub returns-clause-since : goal.returns-clause-since
+returns-clause-since g c =
+    fill_since c.args.slot.row c.args.slot.odd c.requires.row c.gate.result c.gate.ensures.place c.gate.ensures.within (g.D.Disk.image c.args.disk.now) (g.D.Disk.tally c.args.disk.now).size c.requires.size
+    (g.met.D.Disk.fits c.args.disk.now) _ c.requires.behind (g.D.Disk.left c.args.disk.now) (g.D.Disk.left c.stable.new.disk) c.requires.tells c.stable.ensures.since
+
+pub returns-clause-written : goal.returns-clause-written
+returns-clause-written g c =
+    on_ok_weaker c.stable.result
+    (fill_written c.args.slot.row c.args.slot.odd c.requires.row c.gate.result c.gate.ensures.place c.gate.ensures.within (g.D.Disk.image c.args.disk.now) (g.D.Disk.tally c.args.disk.now).size c.requires.size
+    (g.met.D.Disk.fits c.args.disk.now) c.args.octets.now c.requires.behind (g.D.Disk.image c.stable.new.disk) c.requires.tells) c.stable.ensures.written

@@ -1,0 +1,13 @@
+pub mod Slot
+pub mod Slots
+pub mod Image
+pub mod Writes
+pub mod State
+pub mod Commit
+pub mod Kept
+pub mod Reading
+pub mod Untouched
+pub mod Recovery
+pub mod Formatting
+pub mod Pairing
+pub mod Held

@@ -1,0 +1,30 @@
+-- What calls that only read leave of a disk.
+use Rattle.std.specs.Prelude.{◌≡◌, ◌⊎◌, ℕ, Bool, true, List, Option}
+use Rattle.gp_disk.specs.Disk.{Tally, Same}
+use Rattle.gp_disk.specs.Fuse.{Fuse, burnt, Foretold}
+
+-- the counts where reads alone were made
+pub record OnlyReads (old new : Tally) : Type 0 where
+  pub size : new.size ≡ old.size
+  pub begins : new.begins ≡ old.begins
+  pub before : new.before ≡ old.before
+  pub writes : new.writes ≡ old.writes
+  pub octets : new.octets ≡ old.octets
+  pub pending : new.pending ≡ old.pending
+  pub unsettled : new.unsettled ≡ old.unsettled
+
+-- what a read gives, and what a crash may leave now and since the last `begin`, are as they were
+pub record IsKeptAsIs (image new_image : Option (List ℕ)) (may_leave new_may_leave left new_left : List ℕ → Type 0) : Type 0 where
+  pub same_image : new_image ≡ image
+  pub now : Same may_leave new_may_leave
+  pub since : Same left new_left
+
+-- so many calls have all gone through
+abbrev pub AllGone : ℕ → Fuse → Type 0
+AllGone count fuse = (count ≡ 0) ⊎ Foretold count fuse true
+
+-- calls that only read, of which so many were made where all went well
+pub record ReadsOnly (count : ℕ) (old new : Tally) (fuse new_fuse : Fuse) (is_done : Bool) : Type 0 where
+  pub tally : OnlyReads old new
+  pub burnt_by : new_fuse ≡ burnt count fuse
+  pub foretold : Foretold count fuse is_done

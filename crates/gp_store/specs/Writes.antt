@@ -1,0 +1,80 @@
+-- What one slot's rewriting leaves of an image, at each moment of it and at its end.
+use Rattle.std.specs.Prelude.{◌≡◌, ◌⊎◌, ◌+◌, ℕ, Bool, true, false, List, length, Option, Some, None, is_some}
+use Rattle.gp_disk.specs.Disk.{Tally, after_write, after_sync, part}
+use Rattle.gp_store.specs.Image.{Layout, gate_at, slots}
+
+-- two images of one size and with one header, of which each slot but this one is the same
+pub record OnlyAt (layout : Layout) (row : ℕ) (side : Bool) (old new : List ℕ) : Type 0 where
+  pub size : length new ≡ length old
+  pub header : part 0 8 new ≡ part 0 8 old
+  pub others : (r : ℕ) (s : Bool) → ((r ≡ row) × (s ≡ side) → ⊥) → slots layout new r s ≡ slots layout old r s
+
+-- this slot alone may have changed: it is as before, or closed, or open with these octets
+pub record Rewrites (layout : Layout) (row : ℕ) (side : Bool) (octets old new : List ℕ) : Type 0 where
+  pub only : OnlyAt layout row side old new
+  pub here : (slots layout new row side ≡ slots layout old row side) ⊎ (slots layout new row side ≡ None) ⊎ (slots layout new row side ≡ Some octets)
+
+-- this slot alone has changed, and is closed
+pub record Closed (layout : Layout) (row : ℕ) (side : Bool) (old new : List ℕ) : Type 0 where
+  pub only : OnlyAt layout row side old new
+  pub here : slots layout new row side ≡ None
+
+-- this slot alone has changed, and is open with these octets
+pub record Rewritten (layout : Layout) (row : ℕ) (side : Bool) (octets old new : List ℕ) : Type 0 where
+  pub only : OnlyAt layout row side old new
+  pub here : slots layout new row side ≡ Some octets
+
+-- the images since the last `begin` grow only by images that stand so to what a read gave
+pub record GrowsBy (P : List ℕ → List ℕ → Type 0) (image : Option (List ℕ)) (old new : List ℕ → Type 0) : Type 0 where
+  pub kept : (c : List ℕ) → old c → new c
+  pub none : (c : List ℕ) → new c → old c ⊎ ((d : List ℕ) × (image ≡ Some d) × P d c)
+
+-- where a read's image is told, it has become one that stands so to it
+abbrev pub Becomes : (List ℕ → List ℕ → Type 0) → Option (List ℕ) → Option (List ℕ) → Type 0
+Becomes P None None = Unit {0}
+Becomes P None (Some e) = ⊥
+Becomes P (Some d) None = ⊥
+Becomes P (Some d) (Some e) = P d e
+
+-- this slot alone may have changed: it is as before or closed
+pub record Closes (layout : Layout) (row : ℕ) (side : Bool) (old new : List ℕ) : Type 0 where
+  pub only : OnlyAt layout row side old new
+  pub here : (slots layout new row side ≡ slots layout old row side) ⊎ (slots layout new row side ≡ None)
+
+-- this slot alone has changed, and is closed, with these octets behind its gate
+pub record Filled (layout : Layout) (row : ℕ) (side : Bool) (octets old new : List ℕ) : Type 0 where
+  pub closed : Closed layout row side old new
+  pub behind : part (gate_at layout row side + 1) layout.behind new ≡ octets
+
+-- this slot alone may have changed: it is closed, or open with the octets behind its gate
+pub record Opens (layout : Layout) (row : ℕ) (side : Bool) (old new : List ℕ) : Type 0 where
+  pub only : OnlyAt layout row side old new
+  pub here : (slots layout new row side ≡ None) ⊎ (slots layout new row side ≡ Some (part (gate_at layout row side + 1) layout.behind old))
+
+-- this slot alone has changed, and is open with the octets behind its gate
+pub record IsOpened (layout : Layout) (row : ℕ) (side : Bool) (old new : List ℕ) : Type 0 where
+  pub only : OnlyAt layout row side old new
+  pub here : slots layout new row side ≡ Some (part (gate_at layout row side + 1) layout.behind old)
+
+-- where a read's image is told, it tells whether this slot is open
+abbrev pub TellsOpen : Layout → ℕ → Bool → Bool → Option (List ℕ) → Type 0
+TellsOpen layout row side is_open None = Unit {0}
+TellsOpen layout row side is_open (Some image) = is_some (slots layout image row side) ≡ is_open
+
+-- the counts after a stable write of so many octets
+abbrev pub after_stable : ℕ → Tally → Tally
+after_stable count t = after_sync (after_write count t)
+
+-- the counts after a gate was closed, where it was open
+abbrev pub after_closing : Bool → Tally → Tally
+after_closing false t = t
+after_closing true t = after_stable 1 t
+
+-- the counts after a slot was rewritten, with or without a gate to close
+abbrev pub after_rewrite : Bool → Tally → Tally
+after_rewrite was_open t = after_stable 1 (after_stable 63 (after_closing was_open t))
+
+-- how many calls that makes
+abbrev pub rewrite_calls : Bool → ℕ
+rewrite_calls false = 4
+rewrite_calls true = 6
