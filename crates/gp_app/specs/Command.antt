@@ -2,10 +2,21 @@
 use Rattle.std.specs.Prelude.{ℕ, List, [], ◌∷◌, Option, Some, None, codes, if◌then◌else◌}
 use Rattle.std.specs.Str.{bytes_eq}
 use Rattle.gp_app.specs.declared.command.Command.{Command}
-use Rattle.gp_app.specs.declared.command.Command.TheVariants.{Decode}
+use Rattle.gp_app.specs.declared.command.Command.TheVariants.{Decode, Format}
 
--- `decode`, and nothing else
+-- `decode` or `format`, and nothing else
 abbrev pub command_of : List (List ℕ) → Option Command
 command_of [] = None
-command_of (word ∷ []) = if bytes_eq word (codes "decode") then Some Decode else None
+command_of (word ∷ []) = if bytes_eq word (codes "decode") then Some Decode else if bytes_eq word (codes "format") then Some Format else None
 command_of (word ∷ other ∷ others) = None
+
+-- a fact where the words ask for the listing, and one where they ask for the formatting
+abbrev pub OnDecode : Option Command → Type 0 → Type 0
+OnDecode (Some Decode) fact = fact
+OnDecode (Some Format) fact = Unit {0}
+OnDecode None fact = Unit {0}
+
+abbrev pub OnFormat : Option Command → Type 0 → Type 0
+OnFormat (Some Format) fact = fact
+OnFormat (Some Decode) fact = Unit {0}
+OnFormat None fact = Unit {0}

@@ -1,4 +1,5 @@
 pub mod Command
+pub mod Formatting
 pub mod Leaves
 pub mod Listing
 pub mod Outcome

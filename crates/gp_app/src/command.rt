@@ -10,6 +10,8 @@ use gp_base::Word;
 pub enum Command {
     /// The listing of a capture.
     Decode,
+    /// An empty store on the disk.
+    Format,
 }
 
 /// What these words ask for, and `None` where they are no form of the command line.
@@ -20,6 +22,8 @@ pub fn read_command(words: &[Word]) -> Option<Command>
         [word] => {
             if word.as_slice() == b"decode".as_slice() {
                 Some(Command::Decode)
+            } else if word.as_slice() == b"format".as_slice() {
+                Some(Command::Format)
             } else {
                 None
             }

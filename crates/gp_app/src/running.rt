@@ -1,32 +1,68 @@
 //! The top call.
 
 ghost use Rattle.std.specs.Prelude.{◌≡◌, ℕ, [], IfSome, IfNone, None, ◌↔◌};
-ghost use Rattle.gp_app.specs.Command.{command_of};
+ghost use Rattle.gp_app.specs.Command.{command_of, OnDecode, OnFormat};
+ghost use Rattle.gp_app.specs.Formatting.{FormatLeaves, DiskCount};
 ghost use Rattle.gp_app.specs.Leaves.{Leaves, Counts, Says};
 ghost use Rattle.gp_app.specs.Listing.{listing};
 
 use crate::command::{Command, read_command};
 use crate::lines::Progress;
-use crate::status::Status;
+use crate::status::{DiskReason, Status};
 use crate::writing::write_all;
 use gp_base::{Out, Source, Word};
+use gp_disk::Disk;
+use gp_store::{StoreFault, format};
 use std::alloc::Global;
 
 /// How many octets one read asks for.
 const PIECE: usize = 16_384;
 
-/// Does what the words ask for: reads the source, writes the output, and answers how that ended.
+/// Does what the words ask for: reads the source, writes the output or the disk, answers how that ended, and hands the
+/// disk back.
 ///
-/// `decode` lists the lines of a capture, a line each.
-pub fn run<S: Source, O: Out>(alloc: Global, words: &[Word], source: &mut S, out: &mut O) -> Status
-    ensures usage { IfNone (command_of words.now) ((result ≡ Status.Usage) × (source.new ≡ source.old) × (out.new ≡ out.old)) }
-    ensures leaves { IfSome (command_of words.now) (λ command. Leaves listing result
+/// `decode` lists the lines of a capture, a line each. `format` writes an empty store on the disk.
+pub fn run<S: Source, O: Out, D: Disk>(
+    alloc: Global,
+    words: &[Word],
+    source: &mut S,
+    out: &mut O,
+    disk: D,
+) -> (Status, D)
+    ensures usage { IfNone (command_of words.now) ((result.0 ≡ Status.Usage) × (source.new ≡ source.old) × (out.new ≡ out.old) × (result.1 ≡ disk)) }
+
+    ensures leaves { OnDecode (command_of words.now) (Leaves listing result.0
         (S.left source.old) (S.left source.new) (O.written out.old) (O.written out.new)) }
-    ensures counts { Counts result (S.faults source.old) (S.faults source.new) (O.faults out.old) (O.faults out.new) }
+    ensures counts { OnDecode (command_of words.now) (Counts result.0 (S.faults source.old) (S.faults source.new) (O.faults out.old) (O.faults out.new)) }
+    ensures keeps_the_disk { OnDecode (command_of words.now) (result.1 ≡ disk) }
+
+    ensures formats { OnFormat (command_of words.now) (FormatLeaves result.0 (D.tally disk).size (D.image disk) (D.may_leave disk) (D.may_leave result.1) (D.left result.1)) }
+    ensures short { OnFormat (command_of words.now) (result.0 ≡ Status.DiskRefused DiskReason.DiskShort → result.1 ≡ disk) }
+    ensures faults { OnFormat (command_of words.now) (DiskCount result.0 (D.faults disk) (D.faults result.1)) }
+    ensures reads_and_writes_nothing { OnFormat (command_of words.now) ((source.new ≡ source.old) × (out.new ≡ out.old)) }
 {
     match read_command(words) {
-        None => Status::Usage,
-        Some(Command::Decode) => list_lines(alloc, source, out),
+        None => (Status::Usage, disk),
+        Some(Command::Decode) => (list_lines(alloc, source, out), disk),
+        Some(Command::Format) => format_disk(disk),
+    }
+}
+
+// Writes an empty store.
+fn format_disk<D: Disk>(mut disk: D) -> (Status, D)
+    ensures formats { FormatLeaves result.0 (D.tally disk).size (D.image disk) (D.may_leave disk) (D.may_leave result.1) (D.left result.1) }
+    ensures short { result.0 ≡ Status.DiskRefused DiskReason.DiskShort → result.1 ≡ disk }
+    ensures faults { DiskCount result.0 (D.faults disk) (D.faults result.1) }
+{
+    match format(&mut disk) {
+        Ok(()) => (Status::Done, disk),
+        Err(StoreFault::DiskShort) => (Status::DiskRefused(DiskReason::DiskShort), disk),
+        Err(StoreFault::AlreadyFormatted) => (
+            Status::DiskRefused(DiskReason::AlreadyFormatted),
+            disk,
+        ),
+        Err(StoreFault::DiskFault) => (Status::DiskFault, disk),
+        Err(_) => unreachable!(),
     }
 }
 

@@ -1,5 +1,6 @@
 use super::*;
 use gp_base::{MemoryOut, MemorySource, Word};
+use gp_disk::MemoryDisk;
 use gp_script::LineReason;
 use std::test::Fail;
 
@@ -31,7 +32,8 @@ fn outcome(rt: &HostRuntime, case: &Case) -> Result<(Status, Vec<u8>), Fail> {
     let mut out = MemoryOut::new(rt.alloc(), 65_536, piece, case.failing_writes)
         .ok()
         .ok_or("memory")?;
-    let status = run(rt.alloc(), &words, &mut source, &mut out);
+    let disk = MemoryDisk::new(rt.alloc(), 0).ok().ok_or("memory")?;
+    let (status, _disk) = run(rt.alloc(), &words, &mut source, &mut out, disk);
     let written = Vec::from_slice(rt.alloc(), out.written())?;
     Ok((status, written))
 }
@@ -135,5 +137,24 @@ fn refusals_and_faults(rt: HostRuntime) -> Result<(), Fail> {
         assert_eq!(rt; answer, status);
         assert_eq!(rt; written.as_slice(), listing.as_bytes());
     }
+    Ok(())
+}
+
+// Formatting a disk of zeros, formatting it again, and a disk that is one octet too small.
+#[test]
+fn formatting(rt: HostRuntime) -> Result<(), Fail> {
+    let words = vec![in rt.alloc(); Word::of(rt.alloc(), "format").ok().ok_or("memory")?]?;
+    let mut source = MemorySource::of(rt.alloc(), b"", 1, &[0])
+        .ok()
+        .ok_or("memory")?;
+    let mut out = MemoryOut::new(rt.alloc(), 1, 1, &[0]).ok().ok_or("memory")?;
+    let disk = MemoryDisk::new(rt.alloc(), 204_800).ok().ok_or("memory")?;
+    let (status, disk) = run(rt.alloc(), &words, &mut source, &mut out, disk);
+    assert_eq!(rt; status, Status::Done);
+    let (status, _disk) = run(rt.alloc(), &words, &mut source, &mut out, disk);
+    assert_eq!(rt; status, Status::DiskRefused(DiskReason::AlreadyFormatted));
+    let disk = MemoryDisk::new(rt.alloc(), 204_799).ok().ok_or("memory")?;
+    let (status, _disk) = run(rt.alloc(), &words, &mut source, &mut out, disk);
+    assert_eq!(rt; status, Status::DiskRefused(DiskReason::DiskShort));
     Ok(())
 }
