@@ -8,3 +8,6 @@ mod table;
 
 pub use row::Row;
 pub use table::{Table, TableFull};
+
+#[cfg(test)]
+mod tests;

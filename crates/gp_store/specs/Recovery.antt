@@ -1,5 +1,5 @@
 -- What a recovery answers.
-use Rattle.std.specs.Prelude.{◌≡◌, ◌<◌, ◌≤◌, ℕ, List, Option, Some}
+use Rattle.std.specs.Prelude.{◌≡◌, ◌<◌, ◌≤◌, ℕ, Bool, List, Option, Some, Result, Ok, Err}
 use Rattle.gp_store.specs.declared.fault.StoreFault.{StoreFault}
 use Rattle.gp_store.specs.declared.fault.StoreFault.TheVariants.{DiskFault, DiskShort, NotFormatted, AlreadyFormatted, SlotForm, NoMemory}
 use Rattle.gp_store.specs.Slots.{IsFirstIll}

@@ -1,4 +1,4 @@
-use Rattle.std.proofs.Common.{inl, inr, ⊎_elim}
+use Rattle.std.proofs.Common.{inl, inr, ⊎_elim, sym, ◌∙◌}
 use Rattle.gp_store.proofs.formatting.format.Goals as goal
 
 pub returns-in-Err-write_empty-clause-since : goal.returns-in-Err-write_empty-clause-since

@@ -1,4 +1,5 @@
-use Rattle.std.proofs.Common.{◌∙◌}
+use Rattle.std.proofs.Common.{◌≡◌, ◌∙◌, sym, refl, arith, Bool, true, false, ℕ, ◌*◌, ◌+◌}
+use Rattle.gp_store.specs.Slots.{slot_number}
 use Rattle.gp_store.specs.Image.{slots, format_1}
 use Rattle.gp_store.proofs.Recovered.{first_ill}
 use Rattle.gp_store.proofs.recovery.read_disk.Goals as goal
