@@ -11,6 +11,7 @@ usage() {
 gp - Zigbee Green Power, proved
 
   gp decode < CAPTURE      lists the frames of a capture, one line each
+  gp format                writes an empty store of pairings into the file gp.disk of the current folder
   gp --help                prints this page
 
 A capture has one frame a line: the octets of an MPDU without FCS in hexadecimal digits of either case, at most
@@ -35,7 +36,7 @@ Exit statuses, with their text on standard error after 'gp: ':
   4  write fault             standard output failed
   5  disk fault              the disk failed
   6  no memory               memory was asked for and not found
-  7  disk refused: REASON    the disk is refused
+  7  disk refused: REASON    DiskShort, NotFormatted, AlreadyFormatted, or SlotForm and the number of the ill slot
   8  worn at N               the disk takes no more changes
   9  too long                there are too many lines, or a line is too wide
 PAGE
@@ -57,6 +58,11 @@ if [ -x "$program" ] && ! is_current; then
 fi
 if is_current; then
   exec "$program" "$@"
+fi
+# The sources are run in their own folder, so they find no gp.disk of this one.
+if [ $# -gt 0 ] && [ "$1" = format ]; then
+  echo "gp: format wants the proved program: run 'rt run -- decode </dev/null' in crates/gp_cli first" >&2
+  exit 5
 fi
 echo "gp: this run is of the sources, unproved; 'rt run -- decode </dev/null' in crates/gp_cli makes the proved program" >&2
 cd "$crate" && exec rt try -- "$@" 2> >(grep '^gp:' >&2)
