@@ -11,6 +11,8 @@ usage() {
 gp - Zigbee Green Power, proved
 
   gp decode < CAPTURE      lists the frames of a capture, one line each
+  gp decode --json < CAPTURE
+                           lists them as JSON, one object each
   gp format                writes an empty store of pairings into the file gp.disk of the current folder
   gp --help                prints this page
 
@@ -27,6 +29,10 @@ REASON:PLACE with Empty, Short, ValueKind, ReservedLevel or ReservedKeyKind; or 
   bad REASON PLACE
 with the first fault from the left and its place: TooLong, Short, MacForm, FrameKind, Version, AppId, LevelOne,
 SecuredMaintenance or NoCommand.
+
+As JSON a frame is one compact object with the keys auto, body, command, counter, dest, ext, kind, mic, pan, seq, src and
+tag, and what is no frame is {"bad":REASON,"place":N}. An absent field is null; so is a command that is refused or isn't in
+clear. Octets and fields of a fixed width are hexadecimal texts; identifiers, single octets and counters are numbers.
 
 Exit statuses, with their text on standard error after 'gp: ':
   0  all of the input was read, and all of the output written

@@ -1,12 +1,12 @@
 -- How long the command of a frame may be.
-use Rattle.std.proofs.Common.{◌≡◌, ℕ, ◌+◌, ◌≤◌, List, [], ◌∷◌, ◌++◌, length, ap, sym, ◌∙◌, arith}
+use Rattle.std.proofs.Common.{ℕ, ◌≤◌, List, ◌++◌, length, ap, arith}
 use Rattle.std.specs.Int.{w32, to_le_bytes}
 use Rattle.std.proofs.lemmas.List.{length-append}
 use Rattle.gp_base.specs.Field.{octet, optional}
 use Rattle.gp_base.specs.declared.identity.Src.{Src}
 use Rattle.gp_frames.specs.declared.frame.Ext.{Ext}
 use Rattle.gp_frames.specs.declared.frame.Mpdu.{Mpdu}
-use Rattle.gp_frames.specs.Frame.{extension, spelling, Frame}
+use Rattle.gp_frames.specs.Frame.{extension, Frame}
 
 inner : (a b c body mic : List ℕ) → length body ≤ length (a ++ (b ++ (c ++ (body ++ mic))))
 inner a b c body mic = omega (arith, length-append a (b ++ (c ++ (body ++ mic))), length-append b (c ++ (body ++ mic)), length-append c (body ++ mic), length-append body mic)

@@ -1,4 +1,5 @@
 pub mod Bodies
+mod JsonMembers
 pub mod LineLemmas
 pub mod Outcomes
 pub mod Runs

@@ -4,7 +4,6 @@ use Rattle.gp_base.specs.Outside.{Rose}
 use Rattle.gp_store.specs.Image.{HoldsRows}
 use Rattle.gp_store.specs.Recovery.{Told}
 use Rattle.gp_store.specs.Formatting.{IsBegun, LeavesNoRows}
-use Rattle.gp_app.specs.declared.status.DiskReason.{DiskReason}
 use Rattle.gp_app.specs.declared.status.DiskReason.TheVariants.{DiskShort, NotFormatted, AlreadyFormatted, SlotForm}
 use Rattle.gp_app.specs.declared.status.Status.{Status}
 use Rattle.gp_app.specs.declared.status.Status.TheVariants.{Done, BadLine, Usage, ReadFault, WriteFault, DiskFault, NoMemory, DiskRefused, Worn, TooLong}

@@ -4,6 +4,8 @@
 #![tactic(auto)]
 
 mod command;
+mod form;
+mod json;
 mod lines;
 mod listing;
 mod running;

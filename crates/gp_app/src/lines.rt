@@ -4,16 +4,18 @@ ghost use Rattle.std.specs.Prelude.{◌≡◌, ◌+◌, ◌<◌, ◌≤◌, ◌�
 ghost use Rattle.std.specs.Str.Lines.{lines, strip_carriage_return};
 ghost use Rattle.std.specs.Io.KnownBytes.{Appends};
 ghost use Rattle.gp_base.specs.Outside.{Rose};
-ghost use Rattle.gp_app.specs.Listing.{listing};
+ghost use Rattle.gp_app.specs.Form.{listing_of};
 ghost use Rattle.gp_app.specs.Outcome.{after, outcome_of};
 ghost use Rattle.gp_app.specs.Stream.{HasNoEnd, Takes, Stops, Ends, Grows, IsStop, room};
 
-use crate::listing::{Unlisted, push_listing};
+use crate::form::{ListingForm, push_form};
+use crate::listing::Unlisted;
 use crate::status::Status;
 use crate::writing::write_all;
 use arrayvec::ArrayVec;
 use gp_base::{Failed, Out};
 use gp_script::LineReason;
+use std::alloc::Global;
 
 /// The greatest number of lines.
 const LINE_LIMIT: u64 = 1_000_000;
@@ -34,17 +36,23 @@ pub struct Progress {
 }
 
 // Adds what a line gives, the line end aside, behind so many lines before it.
-fn push_line(text: &mut Vec<u8>, lines: u64, line: &[u8]) -> Result<(), Status>
+fn push_line(
+    alloc: Global,
+    form: ListingForm,
+    text: &mut Vec<u8>,
+    lines: u64,
+    line: &[u8],
+) -> Result<(), Status>
     ensures ok { OnOk result (Grows text.old.items text.new.items (λ listed. (others : List (List ℕ)) →
-        outcome_of listing (lines + 1) (line.now ∷ others) ≡ after listed (outcome_of listing (lines + 1 + 1) others))) }
+        outcome_of (listing_of form) (lines + 1) (line.now ∷ others) ≡ after listed (outcome_of (listing_of form) (lines + 1 + 1) others))) }
     ensures room { OnOk result (lines + 1 ≤ 1000000) }
     ensures err { IfErr result (λ status. IsStop status text.old.items text.new.items (λ outcome. (others : List (List ℕ)) →
-        outcome_of listing (lines + 1) (line.now ∷ others) ≡ outcome)) }
+        outcome_of (listing_of form) (lines + 1) (line.now ∷ others) ≡ outcome)) }
 {
     if lines >= LINE_LIMIT || line.len() > WIDTH_LIMIT {
         return Err(Status::TooLong);
     }
-    match push_listing(text, line) {
+    match push_form(alloc, form, text, line) {
         Ok(()) => {}
         Err(Unlisted::Form) => {
             return Err(Status::BadLine {
@@ -107,39 +115,45 @@ impl Progress {
     }
 
     // Ends the line that has begun with these octets, which stand before an LF.
-    fn end_line(&mut self, front: &[u8]) -> Result<(), Status>
+    fn end_line(&mut self, alloc: Global, form: ListingForm, front: &[u8]) -> Result<(), Status>
         requires begun { HasNoEnd self.old.begun.items }
         requires front { HasNoEnd front.now }
         requires few { self.old.lines ≤ 1000000 }
-        ensures ok { OnOk result (Grows self.old.text.items self.new.text.items (Takes listing self.old.lines
+        ensures ok { OnOk result (Grows self.old.text.items self.new.text.items (Takes (listing_of form) self.old.lines
             self.old.begun.items (front.now ++ 10 ∷ []) self.new.lines self.new.begun.items)) }
         ensures one { OnOk result (self.new.lines ≡ self.old.lines + 1) }
         ensures few { OnOk result (self.new.lines ≤ 1000000) }
         ensures begun { OnOk result (self.new.begun.items ≡ []) }
         ensures err { IfErr result (λ status. IsStop status self.old.text.items self.new.text.items
-            (Stops listing self.old.lines self.old.begun.items (front.now ++ 10 ∷ []))) }
+            (Stops (listing_of form) self.old.lines self.old.begun.items (front.now ++ 10 ∷ []))) }
     {
         if self.begun.is_empty() {
-            self.end_fresh(front)
+            self.end_fresh(alloc, form, front)
         } else {
-            self.end_begun(front)
+            self.end_begun(alloc, form, front)
         }
     }
 
     // The same where no line has begun: the octets are the line.
-    fn end_fresh(&mut self, front: &[u8]) -> Result<(), Status>
+    fn end_fresh(&mut self, alloc: Global, form: ListingForm, front: &[u8]) -> Result<(), Status>
         requires begun { self.old.begun.items ≡ [] }
         requires front { HasNoEnd front.now }
         requires few { self.old.lines ≤ 1000000 }
-        ensures ok { OnOk result (Grows self.old.text.items self.new.text.items (Takes listing self.old.lines
+        ensures ok { OnOk result (Grows self.old.text.items self.new.text.items (Takes (listing_of form) self.old.lines
             self.old.begun.items (front.now ++ 10 ∷ []) self.new.lines self.new.begun.items)) }
         ensures one { OnOk result (self.new.lines ≡ self.old.lines + 1) }
         ensures few { OnOk result (self.new.lines ≤ 1000000) }
         ensures begun { OnOk result (self.new.begun.items ≡ []) }
         ensures err { IfErr result (λ status. IsStop status self.old.text.items self.new.text.items
-            (Stops listing self.old.lines self.old.begun.items (front.now ++ 10 ∷ []))) }
+            (Stops (listing_of form) self.old.lines self.old.begun.items (front.now ++ 10 ∷ []))) }
     {
-        match push_line(&mut self.text, self.lines, without_return(front)) {
+        match push_line(
+            alloc,
+            form,
+            &mut self.text,
+            self.lines,
+            without_return(front),
+        ) {
             Ok(()) => {
                 self.lines += 1;
                 Ok(())
@@ -149,23 +163,23 @@ impl Progress {
     }
 
     // The same where a line has begun.
-    fn end_begun(&mut self, front: &[u8]) -> Result<(), Status>
+    fn end_begun(&mut self, alloc: Global, form: ListingForm, front: &[u8]) -> Result<(), Status>
         requires begun { HasNoEnd self.old.begun.items }
         requires front { HasNoEnd front.now }
         requires few { self.old.lines ≤ 1000000 }
-        ensures ok { OnOk result (Grows self.old.text.items self.new.text.items (Takes listing self.old.lines
+        ensures ok { OnOk result (Grows self.old.text.items self.new.text.items (Takes (listing_of form) self.old.lines
             self.old.begun.items (front.now ++ 10 ∷ []) self.new.lines self.new.begun.items)) }
         ensures one { OnOk result (self.new.lines ≡ self.old.lines + 1) }
         ensures few { OnOk result (self.new.lines ≤ 1000000) }
         ensures begun { OnOk result (self.new.begun.items ≡ []) }
         ensures err { IfErr result (λ status. IsStop status self.old.text.items self.new.text.items
-            (Stops listing self.old.lines self.old.begun.items (front.now ++ 10 ∷ []))) }
+            (Stops (listing_of form) self.old.lines self.old.begun.items (front.now ++ 10 ∷ []))) }
     {
         if !self.widen(front) {
             return Err(Status::TooLong);
         }
         let line = without_return(self.begun.as_slice());
-        match push_line(&mut self.text, self.lines, line) {
+        match push_line(alloc, form, &mut self.text, self.lines, line) {
             Ok(()) => {
                 self.begun.clear();
                 self.lines += 1;
@@ -176,16 +190,16 @@ impl Progress {
     }
 
     // Begins a line with these octets, or goes on with it.
-    fn begin_line(&mut self, more: &[u8]) -> Result<(), Status>
+    fn begin_line(&mut self, form: ListingForm, more: &[u8]) -> Result<(), Status>
         requires begun { HasNoEnd self.old.begun.items }
         requires more { HasNoEnd more.now }
-        ensures ok { OnOk result (Grows self.old.text.items self.new.text.items (Takes listing self.old.lines
+        ensures ok { OnOk result (Grows self.old.text.items self.new.text.items (Takes (listing_of form) self.old.lines
             self.old.begun.items more.now self.new.lines self.new.begun.items)) }
         ensures begun { OnOk result (self.new.begun.items ≡ self.old.begun.items ++ more.now) }
         ensures fits { OnOk result (0 < length more.now → length self.new.begun.items ≤ 1025) }
         ensures lines { self.new.lines ≡ self.old.lines }
         ensures err { IfErr result (λ status. IsStop status self.old.text.items self.new.text.items
-            (Stops listing self.old.lines self.old.begun.items more.now)) }
+            (Stops (listing_of form) self.old.lines self.old.begun.items more.now)) }
     {
         if more.is_empty() {
             return Ok(());
@@ -203,43 +217,54 @@ impl Progress {
     }
 
     /// Takes the next piece of the input: ends the lines that it ends, and begins another.
-    pub fn take_piece(&mut self, piece: &[u8]) -> Result<(), Status>
+    pub fn take_piece(
+        &mut self,
+        alloc: Global,
+        form: ListingForm,
+        piece: &[u8],
+    ) -> Result<(), Status>
         requires begun { HasNoEnd self.old.begun.items }
         requires few { self.old.lines ≤ 1000000 }
-        ensures ok { OnOk result (Grows self.old.text.items self.new.text.items (Takes listing self.old.lines
+        ensures ok { OnOk result (Grows self.old.text.items self.new.text.items (Takes (listing_of form) self.old.lines
             self.old.begun.items piece.now self.new.lines self.new.begun.items)) }
         ensures begun { OnOk result (HasNoEnd self.new.begun.items) }
         ensures few { OnOk result (self.new.lines ≤ 1000000) }
         ensures nearer { OnOk result (0 < length piece.now → room self.new.lines self.new.begun.items < room self.old.lines self.old.begun.items) }
         ensures err { IfErr result (λ status. IsStop status self.old.text.items self.new.text.items
-            (Stops listing self.old.lines self.old.begun.items piece.now)) }
+            (Stops (listing_of form) self.old.lines self.old.begun.items piece.now)) }
     {
         let mut rest = piece;
         'lines: while let Some((front, back)) = split_line(rest) {
-            match self.end_line(front) {
+            match self.end_line(alloc, form, front) {
                 Ok(()) => {}
                 Err(status) => return Err(status),
             }
             rest = back;
         }
-        match self.begin_line(rest) {
+        match self.begin_line(form, rest) {
             Ok(()) => Ok(()),
             Err(status) => Err(status),
         }
     }
 
     /// Ends the input: a last line without LF counts where it isn't empty.
-    pub fn finish(&mut self) -> Result<(), Status>
+    pub fn finish(&mut self, alloc: Global, form: ListingForm) -> Result<(), Status>
         requires { HasNoEnd self.old.begun.items }
         ensures ok { OnOk result (Grows self.old.text.items self.new.text.items (λ text.
-            Ends listing self.old.lines self.old.begun.items (record { text = text; status = Status.Done }))) }
+            Ends (listing_of form) self.old.lines self.old.begun.items (record { text = text; status = Status.Done }))) }
         ensures err { IfErr result (λ status. IsStop status self.old.text.items self.new.text.items
-            (Ends listing self.old.lines self.old.begun.items)) }
+            (Ends (listing_of form) self.old.lines self.old.begun.items)) }
     {
         if self.begun.is_empty() {
             return Ok(());
         }
-        match push_line(&mut self.text, self.lines, self.begun.as_slice()) {
+        match push_line(
+            alloc,
+            form,
+            &mut self.text,
+            self.lines,
+            self.begun.as_slice(),
+        ) {
             Ok(()) => Ok(()),
             Err(status) => Err(status),
         }

@@ -80,7 +80,7 @@ fn push_refusal(text: &mut Vec<u8>, reason: FrameReason) -> Result<(), AllocErro
 }
 
 // The name of a reason, and its place in the octets.
-fn named(reason: FrameReason) -> (&'static str, u8)
+pub(crate) fn named(reason: FrameReason) -> (&'static str, u8)
     ensures name { result.0.now ≡ Rattle.gp_app.specs.Listing.reason_name reason }
     ensures place { result.1 ≡ Rattle.gp_app.specs.Listing.reason_place reason }
 {
@@ -118,7 +118,7 @@ fn push_mac(text: &mut Vec<u8>, mpdu: &Mpdu) -> Result<(), AllocError>
     push_field(text, " dest=", &mpdu.dest.to_be_bytes())
 }
 
-fn kind(is_maintenance: bool) -> &'static str
+pub(crate) fn kind(is_maintenance: bool) -> &'static str
     ensures { result.now ≡ kind_text is_maintenance }
 {
     if is_maintenance {
@@ -158,7 +158,7 @@ fn push_ext(text: &mut Vec<u8>, ext: Option<Ext>) -> Result<(), AllocError>
 }
 
 // The octet that an extended frame control is sent as.
-fn octet_of(ext: Ext) -> u8
+pub(crate) fn octet_of(ext: Ext) -> u8
     requires { ext.level ≤ 3 }
     ensures { result ≡ extension ext }
 {
@@ -214,7 +214,7 @@ fn push_read(text: &mut Vec<u8>, frame: &Gpdf) -> Result<(), AllocError>
     push_command(text, frame.body.as_slice())
 }
 
-fn level(frame: &Gpdf) -> u8
+pub(crate) fn level(frame: &Gpdf) -> u8
     ensures { result ≡ level_of frame.now }
 {
     match frame.ext {
@@ -240,7 +240,7 @@ fn push_command(text: &mut Vec<u8>, body: &[u8]) -> Result<(), AllocError>
 }
 
 // The name of a variant.
-fn variant(command: &GpdCommand) -> &'static str
+pub(crate) fn variant(command: &GpdCommand) -> &'static str
     ensures { result.now ≡ variant_name command.now }
 {
     match command {

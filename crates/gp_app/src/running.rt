@@ -4,9 +4,10 @@ ghost use Rattle.std.specs.Prelude.{◌≡◌, ℕ, [], IfSome, IfNone, None, �
 ghost use Rattle.gp_app.specs.Command.{command_of, OnDecode, OnFormat};
 ghost use Rattle.gp_app.specs.Formatting.{FormatLeaves, DiskCount};
 ghost use Rattle.gp_app.specs.Leaves.{Leaves, Counts, Says};
-ghost use Rattle.gp_app.specs.Listing.{listing};
+ghost use Rattle.gp_app.specs.Form.{listing_of};
 
 use crate::command::{Command, read_command};
+use crate::form::ListingForm;
 use crate::lines::Progress;
 use crate::status::{DiskReason, Status};
 use crate::writing::write_all;
@@ -21,7 +22,7 @@ const PIECE: usize = 16_384;
 /// Does what the words ask for: reads the source, writes the output or the disk, answers how that ended, and hands the
 /// disk back.
 ///
-/// `decode` lists the lines of a capture, a line each. `format` writes an empty store on the disk.
+/// `decode` lists the lines of a capture, a line each, and `decode --json` lists them as JSON. `format` writes an empty store on the disk.
 pub fn run<S: Source, O: Out, D: Disk>(
     alloc: Global,
     words: &[Word],
@@ -31,10 +32,10 @@ pub fn run<S: Source, O: Out, D: Disk>(
 ) -> (Status, D)
     ensures usage { IfNone (command_of words.now) ((result.0 ≡ Status.Usage) × (source.new ≡ source.old) × (out.new ≡ out.old) × (result.1 ≡ disk)) }
 
-    ensures leaves { OnDecode (command_of words.now) (Leaves listing result.0
+    ensures leaves { OnDecode (command_of words.now) (λ form. Leaves (listing_of form) result.0
         (S.left source.old) (S.left source.new) (O.written out.old) (O.written out.new)) }
-    ensures counts { OnDecode (command_of words.now) (Counts result.0 (S.faults source.old) (S.faults source.new) (O.faults out.old) (O.faults out.new)) }
-    ensures keeps_the_disk { OnDecode (command_of words.now) (result.1 ≡ disk) }
+    ensures counts { OnDecode (command_of words.now) (λ form. Counts result.0 (S.faults source.old) (S.faults source.new) (O.faults out.old) (O.faults out.new)) }
+    ensures keeps_the_disk { OnDecode (command_of words.now) (λ form. result.1 ≡ disk) }
 
     ensures formats { OnFormat (command_of words.now) (FormatLeaves result.0 (D.tally disk).size (D.image disk) (D.may_leave disk) (D.may_leave result.1) (D.left result.1)) }
     ensures short { OnFormat (command_of words.now) (result.0 ≡ Status.DiskRefused DiskReason.DiskShort → result.1 ≡ disk) }
@@ -43,7 +44,7 @@ pub fn run<S: Source, O: Out, D: Disk>(
 {
     match read_command(words) {
         None => (Status::Usage, disk),
-        Some(Command::Decode) => (list_lines(alloc, source, out), disk),
+        Some(Command::Decode(form)) => (list_lines(alloc, form, source, out), disk),
         Some(Command::Format) => format_disk(disk),
     }
 }
@@ -67,8 +68,13 @@ fn format_disk<D: Disk>(mut disk: D) -> (Status, D)
 }
 
 // Lists the lines of a source.
-fn list_lines<S: Source, O: Out>(alloc: Global, source: &mut S, out: &mut O) -> Status
-    ensures leaves { Leaves listing result (S.left source.old) (S.left source.new) (O.written out.old) (O.written out.new) }
+fn list_lines<S: Source, O: Out>(
+    alloc: Global,
+    form: ListingForm,
+    source: &mut S,
+    out: &mut O,
+) -> Status
+    ensures leaves { Leaves (listing_of form) result (S.left source.old) (S.left source.new) (O.written out.old) (O.written out.new) }
     ensures counts { Counts result (S.faults source.old) (S.faults source.new) (O.faults out.old) (O.faults out.new) }
 {
     let Ok(text) = Vec::with_capacity(alloc, 4 * PIECE) else {
@@ -83,7 +89,7 @@ fn list_lines<S: Source, O: Out>(alloc: Global, source: &mut S, out: &mut O) -> 
         if count == 0 {
             break;
         }
-        match progress.take_piece(&buffer[..count]) {
+        match progress.take_piece(alloc, form, &buffer[..count]) {
             Ok(()) => {}
             Err(status) => return last_words(out, &progress.text, status),
         }
@@ -91,7 +97,7 @@ fn list_lines<S: Source, O: Out>(alloc: Global, source: &mut S, out: &mut O) -> 
             return Status::WriteFault;
         };
     }
-    match progress.finish() {
+    match progress.finish(alloc, form) {
         Ok(()) => last_words(out, &progress.text, Status::Done),
         Err(status) => last_words(out, &progress.text, status),
     }

@@ -182,3 +182,165 @@ fn round_trips(rt: HostRuntime) -> Result<(), Fail> {
     }
     Ok(())
 }
+
+// The sample capture of the examples.
+const CAPTURE: [&str; 20] = [
+    "01080AFFFFFFFF8C002143658720",
+    "01080BFFFFFFFF8C402143658720",
+    "01080CFFFFFFFF0C2143658721",
+    "01080DFFFFFFFF0DE305",
+    "01080EFFFFFFFF0DF305",
+    "01080FFFFFFFFF4DE305",
+    "010810FFFFFFFF8D4007000000E305",
+    "010811FFFFFFFF8C302143658702000000220A0B0C0D",
+    "010812FFFFFFFF8C3821436587030000003E5A10A0B0C0D0",
+    "010813FFFFFFFF8CA021436587F0",
+    "0108",
+    "0308AAFFFFFFFF8C002143658720",
+    "01080AFFFFFFFF8E002143658720",
+    "01080AFFFFFFFF88002143658720",
+    "01080AFFFFFFFF8C",
+    "01080AFFFFFFFF8C012143658720",
+    "01080AFFFFFFFF8C082143658720",
+    "01080AFFFFFFFF8D302143658702000000220A0B0C0D",
+    "01080AFFFFFFFF8C0021436587",
+    "0000000000000000000000000000000000000000000000000000000000000000000000000000000000000000000000000000000000000000000000000000000000000000000000000000000000000000000000000000000000000000000000000000000000000000000000000000000000000000000000000000000000000000000000000000",
+];
+
+// The octets of the first lines of a text, so many of them.
+fn first_lines(rt: &HostRuntime, text: &[u8], lines: u64) -> Result<Vec<u8>, Fail> {
+    let mut front = Vec::new(rt.alloc());
+    let mut left = lines;
+    for octet in text {
+        if left > 0 {
+            front.push(*octet)?;
+            if *octet == b'\n' {
+                left -= 1;
+            }
+        }
+    }
+    Ok(front)
+}
+
+// How many lines end in the first octets of an input, so many of them.
+fn lines_ended(input: &[u8], octets: usize) -> u64 {
+    let mut ended = 0u64;
+    for octet in input.iter().take(octets) {
+        if *octet == b'\n' {
+            ended = ended.saturating_add(1);
+        }
+    }
+    ended
+}
+
+// The sample capture in both forms: in pieces of one octet, and with each read and each write failing in turn.
+#[test]
+fn sample_capture(rt: HostRuntime) -> Result<(), Fail> {
+    let mut input = Vec::new(rt.alloc());
+    for line in CAPTURE {
+        input.extend_from_slice(line.as_bytes())?;
+        input.push(b'\n')?;
+    }
+    let forms: [&[&str]; 2] = [&["decode"], &["decode", "--json"]];
+    for words in forms {
+        let whole = Case {
+            words,
+            input: &input,
+            piece: 4096,
+            failing_reads: &[],
+            failing_writes: &[],
+        };
+        let (status, text) = outcome(&rt, &whole)?;
+        assert_eq!(rt; status, Status::Done);
+        assert_eq!(rt; lines_ended(&text, text.len()), 20);
+        let (status, in_ones) = outcome(&rt, &Case { piece: 1, ..whole })?;
+        assert_eq!(rt; status, Status::Done);
+        assert_eq!(rt; in_ones.as_slice(), text.as_slice());
+        let mut taken = 0usize;
+        for failing in 0..60u64 {
+            let case = Case {
+                piece: 16,
+                failing_reads: &[failing],
+                ..whole
+            };
+            let (status, written) = outcome(&rt, &case)?;
+            if taken < input.len().saturating_add(16) {
+                let front = first_lines(&rt, &text, lines_ended(&input, taken))?;
+                assert_eq!(rt; status, Status::ReadFault, "read {failing}");
+                assert_eq!(rt; written.as_slice(), front.as_slice(), "read {failing}");
+            } else {
+                assert_eq!(rt; status, Status::Done, "read {failing}");
+            }
+            taken = taken.saturating_add(16);
+        }
+        let mut ended = false;
+        for failing in 0..600u64 {
+            if !ended {
+                let case = Case {
+                    piece: 16,
+                    failing_writes: &[failing],
+                    ..whole
+                };
+                let (status, written) = outcome(&rt, &case)?;
+                ended = status == Status::Done;
+                assert!(rt; ended || status == Status::WriteFault, "write {failing}");
+                assert!(rt; text.starts_with(&written), "write {failing}");
+                assert!(rt; !ended || written.len() == text.len(), "write {failing}");
+            }
+        }
+        assert!(rt; ended, "a run whose writes all succeed");
+    }
+    Ok(())
+}
+
+// A Commissioning with a key, a counter and application information, as JSON; and words that are nearly right.
+#[test]
+fn json_through_the_program(rt: HostRuntime) -> Result<(), Fail> {
+    let header = "01080AFFFFFFFF8C0021436587";
+    let body = "E00285F2C0C1C2C3C4C5C6C7C8C9CACBCCCDCECF1112131405000000040420212223";
+    let cut = "E00285F2C0C1C2C3C4C5C6C7C8C9CACBCCCDCECF11121314050000000404202122";
+    let reserved = "E00285B1C0C1C2C3C4C5C6C7C8C9CACBCCCDCECF1112131405000000040420212223";
+    let commissioning =
+        r#"{"application":4,"clusters":null,"commands":"20212223","counter":5,"device":2,"extended":242,"key":"C0C1C2C3C4C5C6C7C8C9CACBCCCDCECF","key_mic":"11121314","kind":"Commissioning","manufacturer":null,"model":null,"options":133,"rest":""}"#;
+    for (body, command) in [
+        ("20", r#"{"id":32,"kind":"Plain","rest":""}"#),
+        (body, commissioning),
+        (cut, "null"),
+        (reserved, "null"),
+    ] {
+        let input = format!(in rt.alloc(); "{header}{body}\n")?;
+        let front = r#"{"auto":false,"body":""#;
+        let back =
+            r#","counter":null,"dest":"FFFF","ext":"00","kind":"data","mic":null,"pan":"FFFF","seq":"0A","src":"87654321","tag":null}"#;
+        let listing = format!(in rt.alloc(); "{front}{body}\",\"command\":{command}{back}\n")?;
+        let case = Case {
+            words: &["decode", "--json"],
+            input: input.as_bytes(),
+            piece: 1,
+            failing_reads: &[],
+            failing_writes: &[],
+        };
+        let (status, written) = outcome(&rt, &case)?;
+        assert_eq!(rt; status, Status::Done);
+        assert_eq!(rt; written.as_slice(), listing.as_bytes());
+    }
+    let wrong: [&[&str]; 4] = [
+        &["decode", "--jso"],
+        &["--json", "decode"],
+        &["format", "--json"],
+        &["decode", "--json", "--json"],
+    ];
+    for words in wrong {
+        let case = Case {
+            words,
+            input: b"20",
+            piece: 1,
+            failing_reads: &[],
+            failing_writes: &[],
+        };
+        let (status, written) = outcome(&rt, &case)?;
+        assert_eq!(rt; status, Status::Usage);
+        assert_eq!(rt; written.len(), 0);
+    }
+    Ok(())
+}

@@ -1,12 +1,12 @@
 use Rattle.std.proofs.Common.{◌≡◌, ◌≤◌, []}
-use Rattle.gp_app.specs.Listing.{listing}
+use Rattle.gp_app.specs.Form.{listing_of}
 use Rattle.gp_app.specs.Stream.{HasNoEnd, room}
 use Rattle.gp_app.proofs.Runs.{Reads}
 use Rattle.gp_app.proofs.running.list_lines.Given as goal
 
 abbrev pub invariant-pieces : goal.invariant-pieces
 invariant-pieces g l = record {
-  reads : Reads listing (g.S.Source.left l.fn.source) (g.S.Source.left l.source) (g.O.Out.written l.fn.out) (g.O.Out.written l.out) l.progress.lines l.progress.begun.items;
+  reads : Reads (listing_of l.form) (g.S.Source.left l.fn.source) (g.S.Source.left l.source) (g.O.Out.written l.fn.out) (g.O.Out.written l.out) l.progress.lines l.progress.begun.items;
   text : l.progress.text.items ≡ [];
   begun : HasNoEnd l.progress.begun.items;
   few : l.progress.lines ≤ 1000000;

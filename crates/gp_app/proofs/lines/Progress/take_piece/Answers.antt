@@ -1,13 +1,13 @@
 use Rattle.std.proofs.Common.{◌≡◌, ◌<◌, length, ap, arith}
 use Rattle.std.proofs.lemmas.Grind.{common_steps}
-use Rattle.gp_app.specs.Listing.{listing}
+use Rattle.gp_app.specs.Form.{listing_of}
 use Rattle.gp_app.proofs.LineLemmas.{HasNoEnd-nil}
 use Rattle.gp_app.proofs.Taking.{TakesFront-line, TakesFront-stop, TakesFront-rest, TakesFront-rest_stop}
 use Rattle.gp_app.proofs.lines.Progress.take_piece.Goals as goal
 
 pub returns-in-Err-clause-err : goal.returns-in-Err-clause-err
 returns-in-Err-clause-err c =
-    TakesFront-stop listing _ _ _ c.args.piece.now c.lines.rest.now c.lines.self.lines c.lines.self.begun.items c.lines.self.text.items c.in-Some.front.now c.in-Some.back.now _ c.in-Err.status
+    TakesFront-stop (listing_of c.args.form) _ _ _ c.args.piece.now c.lines.rest.now c.lines.self.lines c.lines.self.begun.items c.lines.self.text.items c.in-Some.front.now c.in-Some.back.now _ c.in-Err.status
     c.lines.invariant.taken c.in-Some.ensures.parts c.in-Err.ensures.err
 
 pub lines-preserved : goal.lines-preserved
@@ -18,7 +18,7 @@ lines-preserved c =
     let few = c.in-Ok.ensures.few in
     let fresh : length c.end_line.new.self.begun.items ≡ 0 = ap length c.in-Ok.ensures.begun in
     record {
-      taken = TakesFront-line listing _ _ _ c.args.piece.now c.lines.rest.now c.lines.self.lines c.lines.self.begun.items c.lines.self.text.items c.in-Some.front.now c.in-Some.back.now _ _ _
+      taken = TakesFront-line (listing_of c.args.form) _ _ _ c.args.piece.now c.lines.rest.now c.lines.self.lines c.lines.self.begun.items c.lines.self.text.items c.in-Some.front.now c.in-Some.back.now _ _ _
           c.lines.invariant.taken c.in-Some.ensures.parts c.in-Ok.ensures.ok;
       begun = rw c.in-Ok.ensures.begun HasNoEnd-nil;
       few = few;
@@ -29,8 +29,8 @@ lines-preserved c =
 
 pub returns-in-Ok-begin_line-clause-ok : goal.returns-in-Ok-begin_line-clause-ok
 returns-in-Ok-begin_line-clause-ok c =
-    TakesFront-rest listing _ _ _ c.args.piece.now c.lines.rest.now c.lines.self.lines c.lines.self.begun.items c.lines.self.text.items _ _ _ c.lines.invariant.taken c.in-Ok-begin_line.ensures.ok
+    TakesFront-rest (listing_of c.args.form) _ _ _ c.args.piece.now c.lines.rest.now c.lines.self.lines c.lines.self.begun.items c.lines.self.text.items _ _ _ c.lines.invariant.taken c.in-Ok-begin_line.ensures.ok
 
 pub returns-in-Err-begin_line-clause-err : goal.returns-in-Err-begin_line-clause-err
 returns-in-Err-begin_line-clause-err c =
-    TakesFront-rest_stop listing _ _ _ c.args.piece.now c.lines.rest.now c.lines.self.lines c.lines.self.begun.items c.lines.self.text.items _ c.in-Err-begin_line.status c.lines.invariant.taken c.in-Err-begin_line.ensures.err
+    TakesFront-rest_stop (listing_of c.args.form) _ _ _ c.args.piece.now c.lines.rest.now c.lines.self.lines c.lines.self.begun.items c.lines.self.text.items _ c.in-Err-begin_line.status c.lines.invariant.taken c.in-Err-begin_line.ensures.err

@@ -1,0 +1,184 @@
+-- What is listed for a line of a capture as JSON: one compact object (RFC 8259), its keys in the order of their bytes.
+use Rattle.std.specs.Prelude.{ℕ, ◌==◌, if◌then◌else◌, List, [], ◌∷◌, Option, Result, Ok, Err, codes}
+use Rattle.std.specs.Option.{option_map, option_map_or}
+use Rattle.std.specs.Int.{w16, w32, to_be_bytes}
+use Rattle.hex.specs.Hex.{encode_upper}
+use Rattle.serde_json.specs.Data.{Data, null, boolean, number, string, object, unsigned, Members, no_members, put as with_member}
+use Rattle.serde_json.specs.Written.{compact_text}
+use Rattle.gp_base.specs.declared.identity.Key.{Key}
+use Rattle.gp_frames.specs.declared.frame.Gpdf.{Gpdf}
+use Rattle.gp_frames.specs.declared.frame.Mpdu.{Mpdu}
+use Rattle.gp_frames.specs.declared.frame.FrameReason.{FrameReason}
+use Rattle.gp_frames.specs.Frame.{extension, level_of}
+use Rattle.gp_frames.specs.Reading.{reading}
+use Rattle.gp_commands.specs.declared.command.GpdCommand.{GpdCommand}
+use Rattle.gp_commands.specs.declared.command.GpdCommand.TheVariants as variant
+use Rattle.gp_commands.specs.declared.command.Commissioning.{Commissioning}
+use Rattle.gp_commands.specs.declared.command.Reply.{Reply}
+use Rattle.gp_commands.specs.declared.command.CommandReason.{CommandReason}
+use Rattle.gp_commands.specs.Command.{reading as read_command}
+use Rattle.gp_script.specs.declared.capture.Capture.{Capture}
+use Rattle.gp_script.specs.declared.capture.Capture.TheVariants.{Frame, Message}
+use Rattle.gp_script.specs.Capture.{captured}
+use Rattle.gp_app.specs.Listing.{reason_name, reason_place, kind_text}
+
+-- octets as a text of hexadecimal digits in upper case, and a number as it is
+abbrev pub hex : List ℕ → Data
+hex octets = string (encode_upper octets)
+
+abbrev pub decimal : ℕ → Data
+decimal n = number (unsigned n)
+
+-- a number of two octets as four digits, and one of four octets as eight
+abbrev pub hex16 : ℕ → Data
+hex16 n = hex (to_be_bytes w16 n)
+
+abbrev pub hex32 : ℕ → Data
+hex32 n = hex (to_be_bytes w32 n)
+
+-- a field that may be absent
+abbrev pub or_null : {A : Type 0} → (A → Data) → Option A → Data
+or_null shown field = option_map_or shown field null
+
+-- a refused frame
+unfoldable pub refusal_members : FrameReason → Members
+refusal_members reason =
+    with_member (codes "bad") (string (reason_name reason))
+    (with_member (codes "place") (decimal (reason_place reason)) no_members)
+
+-- ---- commands: the variant's name, and each of its fields under its own name
+
+-- a command of an identifier and what follows it
+unfoldable pub plain_members : List ℕ → ℕ → List ℕ → Members
+plain_members kind id rest =
+    with_member (codes "id") (decimal id)
+    (with_member (codes "kind") (string kind)
+    (with_member (codes "rest") (hex rest) no_members))
+
+unfoldable pub move_members : ℕ → Option ℕ → List ℕ → Members
+move_members id rate rest = with_member (codes "rate") (or_null decimal rate) (plain_members (codes "Move") id rest)
+
+unfoldable pub step_members : ℕ → ℕ → Option ℕ → List ℕ → Members
+step_members id size time rest =
+    with_member (codes "size") (decimal size)
+    (with_member (codes "time") (or_null decimal time) (plain_members (codes "Step") id rest))
+
+unfoldable pub vector_members : ℕ → ℕ → List ℕ → Members
+vector_members id value rest = with_member (codes "value") (decimal value) (plain_members (codes "Vector") id rest)
+
+unfoldable pub report_members : ℕ → List ℕ → Members
+report_members cluster records =
+    with_member (codes "cluster") (hex16 cluster)
+    (with_member (codes "kind") (string (codes "Report"))
+    (with_member (codes "records") (hex records) no_members))
+
+-- a command about channels
+unfoldable pub channel_members : List ℕ → ℕ → List ℕ → Members
+channel_members kind value rest =
+    with_member (codes "kind") (string kind)
+    (with_member (codes "rest") (hex rest)
+    (with_member (codes "value") (decimal value) no_members))
+
+-- a key with its MIC and counter, besides other members
+unfoldable pub key_members : Option Key → Option (List ℕ) → Option ℕ → Members → Members
+key_members key key_mic counter others =
+    with_member (codes "counter") (or_null decimal counter)
+    (with_member (codes "key") (or_null (λ k. hex k.0) key)
+    (with_member (codes "key_mic") (or_null hex key_mic) others))
+
+-- what the application information of a Commissioning tells, besides other members
+unfoldable pub application_members : Commissioning → Members → Members
+application_members command others =
+    with_member (codes "application") (or_null decimal command.application)
+    (with_member (codes "clusters") (or_null hex command.clusters)
+    (with_member (codes "commands") (or_null hex command.commands)
+    (with_member (codes "manufacturer") (or_null hex16 command.manufacturer)
+    (with_member (codes "model") (or_null hex16 command.model) others))))
+
+-- the other fields of a Commissioning
+unfoldable pub device_members : Commissioning → Members
+device_members command =
+    with_member (codes "device") (decimal command.device)
+    (with_member (codes "extended") (or_null decimal command.extended)
+    (with_member (codes "kind") (string (codes "Commissioning"))
+    (with_member (codes "options") (decimal command.options)
+    (with_member (codes "rest") (hex command.rest) no_members))))
+
+unfoldable pub commissioning_members : Commissioning → Members
+commissioning_members command =
+    application_members command (key_members command.key command.key_mic command.counter (device_members command))
+
+-- the fields of a Reply but for its key
+unfoldable pub network_members : Reply → Members
+network_members command =
+    with_member (codes "kind") (string (codes "Reply"))
+    (with_member (codes "options") (decimal command.options)
+    (with_member (codes "pan") (or_null hex16 command.pan)
+    (with_member (codes "rest") (hex command.rest) no_members)))
+
+unfoldable pub reply_members : Reply → Members
+reply_members command = key_members command.key command.key_mic command.counter (network_members command)
+
+unfoldable pub command_members : GpdCommand → Members
+command_members (variant.Plain id rest) = plain_members (codes "Plain") id rest
+command_members (variant.Move id rate rest) = move_members id rate rest
+command_members (variant.Step id size time rest) = step_members id size time rest
+command_members (variant.Vector id value rest) = vector_members id value rest
+command_members (variant.Report cluster records) = report_members cluster records
+command_members (variant.Commissioning command) = commissioning_members command
+command_members (variant.Reply command) = reply_members command
+command_members (variant.ChannelRequest value rest) = channel_members (codes "ChannelRequest") value rest
+command_members (variant.ChannelConfig value rest) = channel_members (codes "ChannelConfig") value rest
+command_members (variant.Other id rest) = plain_members (codes "Other") id rest
+
+-- what octets read as a command give: null where they are none
+abbrev pub command_data : Result GpdCommand CommandReason → Data
+command_data (Ok command) = object (command_members command)
+command_data (Err reason) = null
+
+-- the body of a frame at level 3 isn't in clear, and isn't read
+unfoldable pub read_data : Gpdf → Data
+read_data frame = if level_of frame == 3 then null else command_data (read_command frame.body)
+
+-- ---- frames
+
+-- the kind of a frame and what the MAC header says, besides other members
+unfoldable pub mac_members : Mpdu → Members → Members
+mac_members mpdu others =
+    with_member (codes "dest") (hex16 mpdu.dest)
+    (with_member (codes "kind") (string (kind_text mpdu.frame.maintenance))
+    (with_member (codes "pan") (hex16 mpdu.pan)
+    (with_member (codes "seq") (hex (mpdu.seq ∷ [])) others)))
+
+-- the fields between the MAC header and the command, besides other members
+unfoldable pub header_members : Gpdf → Members → Members
+header_members frame others =
+    with_member (codes "auto") (boolean frame.auto)
+    (with_member (codes "counter") (or_null decimal frame.counter)
+    (with_member (codes "ext") (or_null (λ e. hex (extension e ∷ [])) frame.ext)
+    (with_member (codes "src") (or_null (λ s. hex32 s.0) frame.src) others)))
+
+-- the command and the MIC, and whether the MIC is right, which isn't told without a key
+unfoldable pub body_members : Gpdf → Members
+body_members frame =
+    with_member (codes "body") (hex frame.body)
+    (with_member (codes "command") (read_data frame)
+    (with_member (codes "mic") (or_null hex frame.mic)
+    (with_member (codes "tag") null no_members)))
+
+unfoldable pub frame_members : Mpdu → Members
+frame_members mpdu = mac_members mpdu (header_members mpdu.frame (body_members mpdu.frame))
+
+-- octets of the air
+unfoldable pub air_members : Result Mpdu FrameReason → Members
+air_members (Ok mpdu) = frame_members mpdu
+air_members (Err reason) = refusal_members reason
+
+-- what a line of a capture holds
+abbrev pub capture_json : Capture → List ℕ
+capture_json (Frame octets) = compact_text (object (air_members (reading octets)))
+capture_json (Message octets) = []
+
+-- the JSON for a line, where it is a line of a capture
+unfoldable pub json_listing : List ℕ → Option (List ℕ)
+json_listing line = option_map capture_json (captured line)

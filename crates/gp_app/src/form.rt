@@ -1,0 +1,36 @@
+//! The forms of the listing.
+
+ghost use Rattle.std.specs.Prelude.{◌≡◌, ◌≤◌, ◌++◌, None, Err, length, OnOk};
+ghost use Rattle.std.specs.Option.{IsSomeAnd};
+ghost use Rattle.gp_app.specs.Form.{listing_of};
+
+use crate::json::push_json;
+use crate::listing::{Unlisted, push_listing};
+use std::alloc::Global;
+
+/// A form of the listing.
+#[derive(Clone, Copy, PartialEq, Eq, Debug)]
+pub enum ListingForm {
+    /// A line of fields, `name=value`.
+    Text,
+    /// A compact JSON object (RFC 8259).
+    Json,
+}
+
+/// Adds the listing of a line in this form, without a line end.
+pub fn push_form(
+    alloc: Global,
+    form: ListingForm,
+    text: &mut Vec<u8>,
+    line: &[u8],
+) -> Result<(), Unlisted>
+    requires { length line.now ≤ 1024 }
+    ensures ok { OnOk result (IsSomeAnd (listing_of form line.now) (λ listed. text.new.items ≡ text.old.items ++ listed)) }
+    ensures form { result ≡ Err Unlisted.Form → listing_of form line.now ≡ None }
+    ensures kept { result ≡ Err Unlisted.Form → text.new.items ≡ text.old.items }
+{
+    match form {
+        ListingForm::Text => push_listing(text, line),
+        ListingForm::Json => push_json(alloc, text, line),
+    }
+}

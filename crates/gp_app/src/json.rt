@@ -1,0 +1,168 @@
+//! The listing of a line of a capture as JSON.
+
+ghost use Rattle.std.specs.Prelude.{◌≡◌, ◌≤◌, ◌++◌, [], ◌∷◌, false, length, Some, None, Ok, Err, IfSome, OnOk};
+ghost use Rattle.std.specs.Option.{IsSomeAnd};
+ghost use Rattle.serde_json.specs.Data.{object, put as with_member};
+ghost use Rattle.serde_json.specs.View.{members_view};
+ghost use Rattle.serde_json.specs.Written.{compact_text, members_have_float};
+ghost use Rattle.gp_frames.specs.Frame.{extension};
+ghost use Rattle.gp_frames.specs.Reading.{reading};
+ghost use Rattle.gp_app.specs.Json.{hex, hex32, or_null, refusal_members, mac_members, header_members, body_members, frame_members, air_members, capture_json, json_listing};
+
+use crate::json::command::put_read;
+use crate::json::member::{
+    put_flag, put_hex, put_mic, put_null, put_number, put_optional_number, put_text,
+};
+use crate::listing::{Unlisted, kind, named, octet_of};
+use crate::text::push_text;
+use gp_base::Src;
+use gp_frames::{Ext, FrameReason, Gpdf, Mpdu, decode};
+use gp_script::{Capture, read_capture};
+use serde_json::{Map, Value};
+use std::alloc::{AllocError, Global};
+
+mod command;
+mod commissioning;
+mod member;
+#[cfg(test)]
+mod tests;
+
+/// Adds the listing of a line as JSON, without a line end.
+#[tactic(auto, unfolding(crate::specs::Json::json_listing))]
+pub fn push_json(alloc: Global, text: &mut Vec<u8>, line: &[u8]) -> Result<(), Unlisted>
+    requires { length line.now ≤ 1024 }
+    ensures ok { OnOk result (IsSomeAnd (json_listing line.now) (λ listed. text.new.items ≡ text.old.items ++ listed)) }
+    ensures form { result ≡ Err Unlisted.Form → json_listing line.now ≡ None }
+    ensures kept { result ≡ Err Unlisted.Form → text.new.items ≡ text.old.items }
+{
+    let Ok(capture) = read_capture(line) else {
+        return Err(Unlisted::Form);
+    };
+    push_capture(alloc, text, &capture)?;
+    Ok(())
+}
+
+fn push_capture(alloc: Global, text: &mut Vec<u8>, capture: &Capture) -> Result<(), AllocError>
+    ensures { OnOk result (text.new.items ≡ text.old.items ++ capture_json capture.now) }
+{
+    match capture {
+        Capture::Frame(octets) => push_air(alloc, text, octets.as_slice()),
+        Capture::Message(_) => Ok(()),
+    }
+}
+
+fn push_air(alloc: Global, text: &mut Vec<u8>, octets: &[u8]) -> Result<(), AllocError>
+    ensures { OnOk result (text.new.items ≡ text.old.items ++ compact_text (object (air_members (reading octets.now)))) }
+{
+    let mut map = Map::new(alloc);
+    put_air(alloc, &mut map, octets)?;
+    let printed = Value::Object(map).to_string(alloc)?;
+    push_text(text, printed.as_str())
+}
+
+#[tactic(auto, unfolding(crate::specs::Json::air_members))]
+fn put_air(alloc: Global, map: &mut Map<String, Value>, octets: &[u8]) -> Result<(), AllocError>
+    requires { map.old.entries ≡ [] }
+    ensures members { OnOk result (members_view map.new.entries ≡ air_members (reading octets.now)) }
+    ensures whole { OnOk result (members_have_float (members_view map.new.entries) ≡ false) }
+{
+    match decode(octets) {
+        Ok(mpdu) => put_frame(alloc, map, &mpdu),
+        Err(reason) => put_refusal(alloc, map, reason),
+    }
+}
+
+#[tactic(auto, unfolding(crate::specs::Json::refusal_members))]
+fn put_refusal(
+    alloc: Global,
+    map: &mut Map<String, Value>,
+    reason: FrameReason,
+) -> Result<(), AllocError>
+    requires { map.old.entries ≡ [] }
+    ensures members { OnOk result (members_view map.new.entries ≡ refusal_members reason) }
+    ensures whole { OnOk result (members_have_float (members_view map.new.entries) ≡ false) }
+{
+    let (name, place) = named(reason);
+    put_number(alloc, map, "place", u64::from(place))?;
+    put_text(alloc, map, "bad", name)
+}
+
+#[tactic(auto, unfolding(crate::specs::Json::frame_members))]
+fn put_frame(alloc: Global, map: &mut Map<String, Value>, mpdu: &Mpdu) -> Result<(), AllocError>
+    requires empty { map.old.entries ≡ [] }
+    requires level { IfSome mpdu.now.frame.ext (λ ext. ext.level ≤ 3) }
+    requires body { length mpdu.now.frame.body ≤ 117 }
+    ensures members { OnOk result (members_view map.new.entries ≡ frame_members mpdu.now) }
+    ensures whole { OnOk result (members_have_float (members_view map.new.entries) ≡ false) }
+{
+    put_body(alloc, map, &mpdu.frame)?;
+    put_header(alloc, map, &mpdu.frame)?;
+    put_mac(alloc, map, mpdu)
+}
+
+#[tactic(auto, unfolding(crate::specs::Json::body_members))]
+fn put_body(alloc: Global, map: &mut Map<String, Value>, frame: &Gpdf) -> Result<(), AllocError>
+    requires empty { map.old.entries ≡ [] }
+    requires body { length frame.now.body ≤ 117 }
+    ensures members { OnOk result (members_view map.new.entries ≡ body_members frame.now) }
+    ensures whole { OnOk result (members_have_float (members_view map.new.entries) ≡ false) }
+{
+    put_null(alloc, map, "tag")?;
+    put_mic(alloc, map, "mic", &frame.mic)?;
+    put_read(alloc, map, "command", frame)?;
+    put_hex(alloc, map, "body", frame.body.as_slice())
+}
+
+#[tactic(auto, unfolding(crate::specs::Json::header_members))]
+fn put_header(alloc: Global, map: &mut Map<String, Value>, frame: &Gpdf) -> Result<(), AllocError>
+    requires { IfSome frame.now.ext (λ ext. ext.level ≤ 3) }
+    ensures members { OnOk result (members_view map.new.entries ≡ header_members frame.now (members_view map.old.entries)) }
+    ensures whole { OnOk result (members_have_float (members_view map.old.entries) ≡ false → members_have_float (members_view map.new.entries) ≡ false) }
+{
+    put_src(alloc, map, "src", frame.src)?;
+    put_ext(alloc, map, "ext", frame.ext)?;
+    put_optional_number(alloc, map, "counter", frame.counter.map(u64::from))?;
+    put_flag(alloc, map, "auto", frame.auto)
+}
+
+#[tactic(auto, unfolding(crate::specs::Json::mac_members))]
+fn put_mac(alloc: Global, map: &mut Map<String, Value>, mpdu: &Mpdu) -> Result<(), AllocError>
+    ensures members { OnOk result (members_view map.new.entries ≡ mac_members mpdu.now (members_view map.old.entries)) }
+    ensures whole { OnOk result (members_have_float (members_view map.old.entries) ≡ false → members_have_float (members_view map.new.entries) ≡ false) }
+{
+    put_hex(alloc, map, "seq", &[mpdu.seq])?;
+    put_hex(alloc, map, "pan", &mpdu.pan.to_be_bytes())?;
+    put_text(alloc, map, "kind", kind(mpdu.frame.maintenance))?;
+    put_hex(alloc, map, "dest", &mpdu.dest.to_be_bytes())
+}
+
+fn put_ext(
+    alloc: Global,
+    map: &mut Map<String, Value>,
+    key: &str,
+    ext: Option<Ext>,
+) -> Result<(), AllocError>
+    requires { IfSome ext (λ e. e.level ≤ 3) }
+    ensures member { OnOk result (members_view map.new.entries ≡ with_member key.now (or_null (λ e. hex (extension e ∷ [])) ext) (members_view map.old.entries)) }
+    ensures whole { OnOk result (members_have_float (members_view map.old.entries) ≡ false → members_have_float (members_view map.new.entries) ≡ false) }
+{
+    match ext {
+        Some(ext) => put_hex(alloc, map, key, &[octet_of(ext)]),
+        None => put_null(alloc, map, key),
+    }
+}
+
+fn put_src(
+    alloc: Global,
+    map: &mut Map<String, Value>,
+    key: &str,
+    src: Option<Src>,
+) -> Result<(), AllocError>
+    ensures member { OnOk result (members_view map.new.entries ≡ with_member key.now (or_null (λ s. hex32 s.0) src) (members_view map.old.entries)) }
+    ensures whole { OnOk result (members_have_float (members_view map.old.entries) ≡ false → members_have_float (members_view map.new.entries) ≡ false) }
+{
+    match src {
+        Some(src) => put_hex(alloc, map, key, &src.0.to_be_bytes()),
+        None => put_null(alloc, map, key),
+    }
+}
