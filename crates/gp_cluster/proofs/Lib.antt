@@ -1,0 +1,11 @@
+pub mod Answers
+pub mod FieldCodecs
+pub mod Headers
+pub mod Messages
+pub mod Modes
+pub mod Notices
+pub mod Pairings
+pub mod Places
+pub mod Responses
+pub mod Spelling
+pub mod Tunnels

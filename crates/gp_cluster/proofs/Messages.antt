@@ -1,0 +1,202 @@
+-- Messages at their places, and spelled out; and the clauses of the calls.
+use Rattle.std.proofs.Common.{◌≡◌, ℕ, ◌≤◌, Bool, true, false, not, ltb, List, [], ◌∷◌, length, drop, Option, Some, None, Result, Ok, Err, refl, sym, ap, subst, ◌∙◌, arith}
+use Rattle.std.specs.Prelude.{IfOk, IfErr, IsTrue}
+use Rattle.std.specs.Bool.{OnTrue}
+use Rattle.std.proofs.lemmas.Bool.{ltb-false, le-ltb}
+use Rattle.gp_base.specs.Field.{IsOctets, has_bit, octet_at}
+use Rattle.gp_base.specs.Table.{answer, let_else, or_else}
+use Rattle.gp_base.proofs.Codec.{At, At-after, At-octet, split_octet}
+use Rattle.gp_cluster.specs.declared.kind.Kind.{Kind}
+use Rattle.gp_cluster.specs.declared.kind.Kind.TheVariants as kinds
+use Rattle.gp_cluster.specs.declared.message.Zcl.{Zcl}
+use Rattle.gp_cluster.specs.declared.message.Cluster.{Cluster}
+use Rattle.gp_cluster.specs.declared.message.Cluster.TheVariants.{Notification, CommissioningNotice, Pairing, ProxyMode, Response}
+use Rattle.gp_cluster.specs.declared.message.ClusterReason.{ClusterReason}
+use Rattle.gp_cluster.specs.declared.message.ClusterReason.TheVariants.{Short, HeaderForm, CommandUnknown, Long}
+use Rattle.gp_cluster.specs.Kind.{kind_in, kind_of, is_from_sink, command_number}
+use Rattle.gp_cluster.specs.Message.{control, body, spelling, fields_agree, HasWidths, Message, IsValid, has_header_form, header_reason, kind_at, body_reason, body_at, message_at, first_reason, reading_behind, reading}
+use Rattle.gp_cluster.proofs.Answers.{first_none, true_from}
+use Rattle.gp_cluster.proofs.Headers.{SaysControl, says_control, control_again, is_kind, kind_again}
+use Rattle.gp_cluster.proofs.Notices.{notification_found, notification_again, notice_found, notice_again}
+use Rattle.gp_cluster.proofs.Pairings.{pairing_found, pairing_again}
+use Rattle.gp_cluster.proofs.Modes.{mode_found, mode_again}
+use Rattle.gp_cluster.proofs.Responses.{response_found, response_again}
+
+-- ---- what is read is spelled so
+
+record Spells (c : Cluster) (b : List ℕ) : Type 0 where
+  parts : drop 3 b ≡ body c
+  fields : fields_agree c ≡ true
+  widths : HasWidths c
+
+body_found : (k : Kind) (b : List ℕ) → IsOctets b → body_reason k b ≡ None → Spells (body_at k b) b
+body_found kinds.Notification b bytes h = let f = notification_found b bytes h in record { parts = f.0; fields = f.1; widths = f.2 }
+body_found kinds.CommissioningNotice b bytes h = let f = notice_found b bytes h in record { parts = f.0; fields = f.1; widths = f.2 }
+body_found kinds.Pairing b bytes h = let f = pairing_found b bytes h in record { parts = f.0; fields = f.1; widths = f.2 }
+body_found kinds.ProxyMode b bytes h = let f = mode_found b bytes h in record { parts = f.0; fields = f.1; widths = f.2 }
+body_found kinds.Response b bytes h = let f = response_found b bytes h in record { parts = f.0; fields = f.1; widths = f.2 }
+
+kind_in-body_at : (k : Kind) (b : List ℕ) → kind_in (body_at k b) ≡ k
+kind_in-body_at kinds.Notification b = refl
+kind_in-body_at kinds.CommissioningNotice b = refl
+kind_in-body_at kinds.Pairing b = refl
+kind_in-body_at kinds.ProxyMode b = refl
+kind_in-body_at kinds.Response b = refl
+
+-- a header without fault
+record IsHeader (b : List ℕ) : Type 0 where
+  limit : length b ≤ 127
+  long : 3 ≤ length b
+  form : has_header_form (octet_at b 0) ≡ true
+
+is_header : (b : List ℕ) → header_reason b ≡ None → IsHeader b
+is_header b h =
+    let one = first_none (ltb 127 (length b)) (Long 127) _ h in
+    let two = first_none (ltb (length b) 3) (Short (length b)) _ one.1 in
+    let three = first_none (not (has_header_form (octet_at b 0))) (HeaderForm 0) None two.1 in
+    record { limit = ltb-false _ _ one.0; long = ltb-false _ _ two.0; form = true_from _ three.0 }
+
+three_first : (b : List ℕ) → 3 ≤ length b → b ≡ octet_at b 0 ∷ octet_at b 1 ∷ octet_at b 2 ∷ drop 3 b
+three_first b long =
+    split_octet b 0 (omega (arith, long))
+    ∙ ap (λ (l : List ℕ). octet_at b 0 ∷ l) (split_octet b 1 (omega (arith, long)) ∙ ap (λ (l : List ℕ). octet_at b 1 ∷ l) (split_octet b 2 (omega (arith, long))))
+
+spelled : (k : Kind) (b : List ℕ) → IsOctets b → IsHeader b → kind_at b ≡ Some k → Spells (body_at k b) b → b ≡ spelling (message_at k b)
+unfolding spelling
+spelled k b bytes header is spells =
+    let kind = is_kind (has_bit (octet_at b 0) 8) (octet_at b 2) k is in
+    let same = kind_in-body_at k b in
+    let first : octet_at b 0 ≡ control (is_from_sink (kind_in (body_at k b))) (has_bit (octet_at b 0) 16) =
+    sym (control_again (octet_at b 0) (bytes 0) header.form) ∙ ap (λ d. control d (has_bit (octet_at b 0) 16)) (kind.direction ∙ ap is_from_sink (sym same)) in
+    let third : octet_at b 2 ≡ command_number (kind_in (body_at k b)) = kind.number ∙ ap command_number (sym same) in
+    three_first b header.long
+    ∙ ap (λ (x : ℕ). x ∷ octet_at b 1 ∷ octet_at b 2 ∷ drop 3 b) first
+    ∙ ap (λ (x : ℕ). control (is_from_sink (kind_in (body_at k b))) (has_bit (octet_at b 0) 16) ∷ octet_at b 1 ∷ x ∷ drop 3 b) third
+    ∙ ap (λ (l : List ℕ). control (is_from_sink (kind_in (body_at k b))) (has_bit (octet_at b 0) 16) ∷ octet_at b 1 ∷ command_number (kind_in (body_at k b)) ∷ l) spells.parts
+
+found : (k : Kind) (b : List ℕ) → IsOctets b → header_reason b ≡ None → kind_at b ≡ Some k → body_reason k b ≡ None → Message (message_at k b) b
+found k b bytes none is fine =
+    let header = is_header b none in
+    let spells = body_found k b bytes fine in
+    record {
+      spelled = spelled k b bytes header is spells;
+      fields = spells.fields;
+      widths = spells.widths;
+      limit = header.limit;
+      are_octets = bytes;
+    }
+
+-- ---- what is spelled so is read
+
+record Reads (c : Cluster) (b : List ℕ) : Type 0 where
+  fine : body_reason (kind_in c) b ≡ None
+  value : body_at (kind_in c) b ≡ c
+
+body_again : (c : Cluster) (b : List ℕ) → At b 3 (body c) → fields_agree c ≡ true → HasWidths c → Reads c b
+body_again (Notification m) b at fields widths = let a = notification_again b m at fields widths in record { fine = a.0; value = ap (λ x. Notification x) a.1 }
+body_again (CommissioningNotice m) b at fields widths = let a = notice_again b m at fields widths in record { fine = a.0; value = ap (λ x. CommissioningNotice x) a.1 }
+body_again (Pairing m) b at fields widths = let a = pairing_again b m at fields widths in record { fine = a.0; value = ap (λ x. Pairing x) a.1 }
+body_again (ProxyMode m) b at fields widths = let a = mode_again b m at fields widths in record { fine = a.0; value = ap (λ x. ProxyMode x) a.1 }
+body_again (Response m) b at fields widths = let a = response_again b m at fields widths in record { fine = a.0; value = ap (λ x. Response x) a.1 }
+
+record Heads (z : Zcl) (b : List ℕ) : Type 0 where
+  first : octet_at b 0 ≡ control (is_from_sink (kind_in z.body)) z.quiet
+  second : octet_at b 1 ≡ z.sequence
+  third : octet_at b 2 ≡ command_number (kind_in z.body)
+  behind : At b 3 (body z.body)
+
+heads : (z : Zcl) (b : List ℕ) → b ≡ spelling z → Heads z b
+unfolding spelling
+heads z b e =
+    let first = control (is_from_sink (kind_in z.body)) z.quiet in
+    let third = command_number (kind_in z.body) in
+    let at0 : At b 0 (first ∷ z.sequence ∷ third ∷ body z.body) = record { rest = e; within = omega arith } in
+    let at1 = At-after b 0 (first ∷ []) _ at0 in
+    let at2 = At-after b 1 (z.sequence ∷ []) _ at1 in
+    record {
+      first = At-octet b 0 first _ at0;
+      second = At-octet b 1 z.sequence _ at1;
+      third = At-octet b 2 third _ at2;
+      behind = At-after b 2 (third ∷ []) _ at2;
+    }
+
+reading_of : (k : Kind) (b : List ℕ) (z : Zcl) → header_reason b ≡ None → kind_at b ≡ Some k → body_reason k b ≡ None → message_at k b ≡ z → reading b ≡ Ok z
+unfolding reading
+reading_of k b z none is fine value =
+    ap (λ (o : Option ClusterReason). let_else o (reading_behind b) (λ reason. Err reason)) none
+    ∙ ap (λ (o : Option Kind). let_else o (Err (CommandUnknown 2)) (λ kind. answer (body_reason kind b) (message_at kind b))) is
+    ∙ ap (λ (o : Option ClusterReason). answer o (message_at k b)) fine
+    ∙ ap (λ (x : Zcl). Ok x) value
+
+pub again : (z : Zcl) (b : List ℕ) → Message z b → reading b ≡ Ok z
+again z b h =
+    let head = heads z b h.spelled in
+    let kind = kind_in z.body in
+    let says : SaysControl (octet_at b 0) (is_from_sink kind) z.quiet = subst (λ (x : ℕ). SaysControl x (is_from_sink kind) z.quiet) (sym head.first) (says_control (is_from_sink kind) z.quiet) in
+    let limit : ltb 127 (length b) ≡ false = le-ltb _ _ h.limit in
+    let long : ltb (length b) 3 ≡ false = le-ltb _ _ head.behind.within in
+    let none : header_reason b ≡ None = rw (limit, long, says.form) refl in
+    let is : kind_at b ≡ Some kind = ap (λ d. kind_of d (octet_at b 2)) says.from_sink_is ∙ ap (λ (x : ℕ). kind_of (is_from_sink kind) x) head.third ∙ kind_again kind in
+    let reads = body_again z.body b head.behind h.fields h.widths in
+    let value : message_at kind b ≡ z = rw (says.quiet_is, head.second, reads.value) refl in
+    reading_of kind b z none is reads.fine value
+
+-- ---- answers and reasons
+
+-- a reason of the header, of the kind, or of a message of that kind; and a value without one
+abbrev first_by : Option ClusterReason → Option Kind → (Kind → Option ClusterReason) → Option ClusterReason
+first_by header kind reason = or_else header (let_else kind (Some (CommandUnknown 2)) reason)
+
+abbrev read_by : Option ClusterReason → Option Kind → (Kind → Option ClusterReason) → (Kind → Zcl) → Result Zcl ClusterReason
+read_by header kind reason value = let_else header (let_else kind (Err (CommandUnknown 2)) (λ k. answer (reason k) (value k))) (λ r. Err r)
+
+answer_refuses : (o : Option ClusterReason) (z : Zcl) (r : Result Zcl ClusterReason) → r ≡ answer o z → IfErr r (λ reason. o ≡ Some reason)
+answer_refuses None z r e = subst (λ (x : Result Zcl ClusterReason). IfErr x (λ reason. None ≡ Some reason)) (sym e) tt
+answer_refuses (Some a) z r e = subst (λ (x : Result Zcl ClusterReason). IfErr x (λ reason. Some a ≡ Some reason)) (sym e) refl
+
+refuses_by : (h : Option ClusterReason) (k : Option Kind) (f : Kind → Option ClusterReason) (v : Kind → Zcl) (r : Result Zcl ClusterReason) → r ≡ read_by h k f v → IfErr r (λ reason. first_by h k f ≡ Some reason)
+refuses_by (Some a) k f v r e = subst (λ (x : Result Zcl ClusterReason). IfErr x (λ reason. Some a ≡ Some reason)) (sym e) refl
+refuses_by None None f v r e = subst (λ (x : Result Zcl ClusterReason). IfErr x (λ reason. Some (CommandUnknown 2) ≡ Some reason)) (sym e) refl
+refuses_by None (Some k) f v r e = answer_refuses (f k) (v k) r e
+
+reason_by : (h : Option ClusterReason) (k : Option Kind) (f : Kind → Option ClusterReason) (v : Kind → Zcl) (reason : ClusterReason) → first_by h k f ≡ Some reason → read_by h k f v ≡ Err reason
+reason_by (Some a) k f v reason e = cc
+reason_by None None f v reason e = cc
+reason_by None (Some k) f v reason e = ap (λ (o : Option ClusterReason). answer o (v k)) e
+
+answer_finds : (o : Option ClusterReason) (z : Zcl) (P : Zcl → Type 0) (r : Result Zcl ClusterReason) → (o ≡ None → P z) → r ≡ answer o z → IfOk r P
+answer_finds None z P r h e = subst (λ (x : Result Zcl ClusterReason). IfOk x P) (sym e) (h refl)
+answer_finds (Some a) z P r h e = subst (λ (x : Result Zcl ClusterReason). IfOk x P) (sym e) tt
+
+finds_by : (h : Option ClusterReason) (k : Option Kind) (f : Kind → Option ClusterReason) (v : Kind → Zcl) (P : Zcl → Type 0) (r : Result Zcl ClusterReason)
+    → ((x : Kind) → h ≡ None → k ≡ Some x → f x ≡ None → P (v x)) → r ≡ read_by h k f v → IfOk r P
+finds_by (Some a) k f v P r all e = subst (λ (x : Result Zcl ClusterReason). IfOk x P) (sym e) tt
+finds_by None None f v P r all e = subst (λ (x : Result Zcl ClusterReason). IfOk x P) (sym e) tt
+finds_by None (Some k) f v P r all e = answer_finds (f k) (v k) P r (λ fine. all k refl refl fine) e
+
+pub is_found : (b : List ℕ) (r : Result Zcl ClusterReason) → IsOctets b → r ≡ reading b → IfOk r (λ z. Message z b)
+unfolding reading
+is_found b r bytes e = finds_by (header_reason b) (kind_at b) (λ k. body_reason k b) (λ k. message_at k b) (λ z. Message z b) r (λ k none is fine. found k b bytes none is fine) e
+
+pub is_refused : (b : List ℕ) (r : Result Zcl ClusterReason) → r ≡ reading b → IfErr r (λ reason. first_reason b ≡ Some reason)
+unfolding reading first_reason
+is_refused b r e = refuses_by (header_reason b) (kind_at b) (λ k. body_reason k b) (λ k. message_at k b) r e
+
+pub refuses : (b : List ℕ) (reason : ClusterReason) → first_reason b ≡ Some reason → reading b ≡ Err reason
+unfolding reading first_reason
+refuses b reason e = reason_by (header_reason b) (kind_at b) (λ k. body_reason k b) (λ k. message_at k b) reason e
+
+-- ---- which messages have a spelling
+
+pub is_valid : (z : Zcl) → fields_agree z.body ≡ true → length (spelling z) ≤ 127 → IsOctets (spelling z) → HasWidths z.body → IsValid z
+is_valid z fields room octets widths = (spelling z, record { spelled = refl; fields = fields; widths = widths; limit = room; are_octets = octets })
+
+pub valid_back : (z : Zcl) → IsValid z → (fields_agree z.body ≡ true) × (length (spelling z) ≤ 127)
+valid_back z h = (h.1.fields, subst (λ (xs : List ℕ). length xs ≤ 127) h.1.spelled h.1.limit)
+
+pub encoded : (z : Zcl) (octets : List ℕ) → IsValid z → octets ≡ spelling z → Message z octets
+encoded z octets h e = subst (λ (xs : List ℕ). Message z xs) (h.1.spelled ∙ sym e) h.1
+
+pub on_true : (t : Bool) (P : Type 0) → OnTrue t P → IsTrue t → P
+on_true true P h t = h
+on_true false P h t = absurd cc

@@ -1,0 +1,10 @@
+pub mod Fields
+pub mod Inside
+pub mod Kind
+pub mod Message
+pub mod Moded
+pub mod Notified
+pub mod Options
+pub mod Paired
+pub mod Responded
+pub mod Tunnel

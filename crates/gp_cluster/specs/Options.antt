@@ -1,0 +1,71 @@
+-- Options of the messages: what their bits say (Zigbee PRO Green Power, A.3.3.4 and A.3.3.5). Bits that no field
+-- depends on aren't read here.
+use Rattle.std.specs.Prelude.{ℕ, ◌/◌, ◌%◌, ◌==◌, Bool, not, ◌&&◌, ◌||◌}
+use Rattle.gp_base.specs.Field.{has_bit}
+
+-- the ApplicationID, bits 0 to 2 of all options but those of Proxy Commissioning Mode
+abbrev pub application_id : ℕ → ℕ
+application_id options = options % 8
+
+-- ---- Notification
+
+-- bit 14: proxy info is there
+abbrev pub has_proxy : ℕ → Bool
+has_proxy options = has_bit options 0x4000
+
+-- ---- Commissioning Notification
+
+-- bit 11: proxy info is there
+abbrev pub notice_has_proxy : ℕ → Bool
+notice_has_proxy options = has_bit options 0x0800
+
+-- bit 9: security processing failed, and the MIC is there
+abbrev pub has_failed : ℕ → Bool
+has_failed options = has_bit options 0x0200
+
+-- ---- Pairing
+
+-- bit 3: AddSink, and the DeviceID is there
+abbrev pub adds_sink : ℕ → Bool
+adds_sink options = has_bit options 0x08
+
+-- bit 4: RemoveGPD
+abbrev pub removes_device : ℕ → Bool
+removes_device options = has_bit options 0x10
+
+-- bits 5 and 6: the communication mode
+abbrev pub mode : ℕ → ℕ
+mode options = options / 32 % 4
+
+-- without RemoveGPD: the sink in mode 0b11, its group in modes 0b01 and 0b10, and mode 0b00 is a fault
+abbrev pub has_sink : ℕ → Bool
+has_sink options = not (removes_device options) && (mode options == 3)
+
+abbrev pub has_group : ℕ → Bool
+has_group options = not (removes_device options) && ((mode options == 1) || (mode options == 2))
+
+abbrev pub lacks_mode : ℕ → Bool
+lacks_mode options = not (removes_device options) && (mode options == 0)
+
+-- bits 14 to 17: counter, key, alias and radius are there
+abbrev pub has_counter : ℕ → Bool
+has_counter options = has_bit options 0x4000
+
+abbrev pub has_key : ℕ → Bool
+has_key options = has_bit options 0x8000
+
+abbrev pub has_alias : ℕ → Bool
+has_alias options = has_bit options 0x10000
+
+abbrev pub has_radius : ℕ → Bool
+has_radius options = has_bit options 0x20000
+
+-- ---- Proxy Commissioning Mode
+
+-- bit 1: the window is there
+abbrev pub has_window : ℕ → Bool
+has_window options = has_bit options 2
+
+-- bit 4: the channel is there
+abbrev pub has_channel : ℕ → Bool
+has_channel options = has_bit options 0x10

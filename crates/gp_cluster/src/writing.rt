@@ -1,0 +1,103 @@
+//! Which messages have a spelling, and that spelling.
+
+ghost use Rattle.std.specs.Prelude.{◌≡◌, ◌<◌, ◌≤◌, ◌↔◌, length, IsTrue, OnSome, MatchOption};
+ghost use Rattle.std.specs.Bool.{OnTrue};
+ghost use Rattle.gp_base.specs.Field.{Adds, IsOctets};
+ghost use Rattle.gp_cluster.specs.Message as words;
+ghost use Rattle.gp_cluster.specs.Message.{Message, IsValid, spelling, HasWidths};
+
+use crate::kind::{control, kind_in};
+use crate::message::{Cluster, Zcl};
+use crate::mode::{add_mode, mode_agrees};
+use crate::notification::{add_notice, add_notification, notice_agrees, notification_agrees};
+use crate::pairing::{add_pairing, pairing_agrees};
+use crate::response::{add_response, response_agrees};
+use gp_base::Octets;
+use gp_base::field::add;
+
+/// Whether a message is one that some octets decode to.
+pub fn valid(zcl: &Zcl) -> bool
+    ensures { IsTrue result ↔ IsValid zcl.now }
+{
+    fields_agree(&zcl.body) && has_room(zcl)
+}
+
+/// The octets that decode to a message. There is one such list.
+pub fn encode(zcl: &Zcl) -> Octets
+    requires { IsValid zcl.now }
+    ensures spelled { Message zcl.now result }
+{
+    match spell(zcl) {
+        Some(octets) => octets,
+        None => unreachable!(),
+    }
+}
+
+/// Whether the ApplicationID is 0, and each field is there where the options say so.
+fn fields_agree(body: &Cluster) -> bool
+    ensures { result ≡ words.fields_agree body.now }
+{
+    match body {
+        Cluster::Notification(m) => notification_agrees(m),
+        Cluster::CommissioningNotice(m) => notice_agrees(m),
+        Cluster::Pairing(m) => pairing_agrees(m),
+        Cluster::ProxyMode(m) => mode_agrees(m),
+        Cluster::Response(m) => response_agrees(m),
+    }
+}
+
+/// Whether a message has at most 127 octets.
+fn has_room(zcl: &Zcl) -> bool
+    ensures room { IsTrue result ↔ (length (spelling zcl.now) ≤ 127) }
+    ensures octets { OnTrue result (IsOctets (spelling zcl.now)) }
+    ensures widths { OnTrue result (HasWidths zcl.now.body) }
+{
+    match spell(zcl) {
+        Some(octets) => is_short(octets.as_slice()),
+        None => false,
+    }
+}
+
+/// Whether octets are at most 127, as many as a message may have.
+fn is_short(octets: &[u8]) -> bool
+    ensures room { IsTrue result ↔ (length octets.now ≤ 127) }
+    ensures octets { IsOctets octets.now }
+{
+    octets.len() <= 127
+}
+
+/// The octets of a message, `None` where they are more than 127.
+fn spell(zcl: &Zcl) -> Option<Octets>
+    ensures octets { MatchOption result (127 < length (spelling zcl.now)) (λ octets. octets ≡ spelling zcl.now) }
+    ensures widths { OnSome result (HasWidths zcl.now.body) }
+{
+    let mut out = Octets::new();
+    add_message(&mut out, zcl)?;
+    Some(out)
+}
+
+/// Adds a message.
+#[tactic(auto, unfolding(crate::specs::Message::spelling))]
+fn add_message(out: &mut Octets, zcl: &Zcl) -> Option<()>
+    ensures added { Adds (spelling zcl.now) out.old out.new result }
+    ensures widths { OnSome result (HasWidths zcl.now.body) }
+{
+    let kind = kind_in(&zcl.body);
+    let control = control(kind.is_from_sink(), zcl.quiet);
+    add(out, &[control, zcl.sequence, kind.command_number()])?;
+    add_body(out, &zcl.body)
+}
+
+/// Adds what stands behind the header.
+fn add_body(out: &mut Octets, body: &Cluster) -> Option<()>
+    ensures added { Adds (words.body body.now) out.old out.new result }
+    ensures widths { OnSome result (HasWidths body.now) }
+{
+    match body {
+        Cluster::Notification(m) => add_notification(out, m),
+        Cluster::CommissioningNotice(m) => add_notice(out, m),
+        Cluster::Pairing(m) => add_pairing(out, m),
+        Cluster::ProxyMode(m) => add_mode(out, m),
+        Cluster::Response(m) => add_response(out, m),
+    }
+}
