@@ -176,9 +176,9 @@ fn reads_as(rt: &impl Abort, octets: &[u8], message: Zcl) {
     assert_eq!(rt; decode(octets), Ok(message));
 }
 
-#[test]
-fn values(rt: HostRuntime) {
-    let on = |payload: Option<Octets>| Zcl {
+/// The value of the Notification of an On command, with this payload.
+fn on(payload: Option<Octets>) -> Zcl {
+    Zcl {
         quiet: true,
         sequence: 0,
         body: Cluster::Notification(Notification {
@@ -189,7 +189,11 @@ fn values(rt: HostRuntime) {
             payload,
             proxy: Some((0x1234, 0x55)),
         }),
-    };
+    }
+}
+
+#[test]
+fn a_notification(rt: HostRuntime) {
     reads_as(&rt, &ON, on(Some(Octets::new())));
     let mut unspecified = ON;
     unspecified[14] = 0xFF;
@@ -202,19 +206,32 @@ fn values(rt: HostRuntime) {
         decode(longer.as_slice()),
         Err(ClusterReason::Trailing { place })
     );
+}
+
+#[test]
+fn a_mode_and_a_response(rt: HostRuntime) {
+    let mode = ProxyMode {
+        options: 0x23,
+        window: Some(180),
+        channel: None,
+    };
     reads_as(
         &rt,
         &[0x19, 0x00, 0x02, 0x23, 0xB4, 0x00],
         Zcl {
             quiet: true,
             sequence: 0,
-            body: Cluster::ProxyMode(ProxyMode {
-                options: 0x23,
-                window: Some(180),
-                channel: None,
-            }),
+            body: Cluster::ProxyMode(mode),
         },
     );
+    let response = Response {
+        options: 0,
+        master: 0x0011,
+        channel: 0x0F,
+        src: Src(7),
+        command: 0xF3,
+        payload: Octets::of(&[0x10]),
+    };
     reads_as(
         &rt,
         &[
@@ -223,48 +240,39 @@ fn values(rt: HostRuntime) {
         Zcl {
             quiet: true,
             sequence: 2,
-            body: Cluster::Response(Response {
-                options: 0,
-                master: 0x0011,
-                channel: 0x0F,
-                src: Src(7),
-                command: 0xF3,
-                payload: Octets::of(&[0x10]),
-            }),
+            body: Cluster::Response(response),
         },
     );
 }
 
-/// A pairing with a group and its key, one with a sink, and a commissioning notification with proxy and MIC.
+/// The value of a Pairing with the key, and a sink or a group.
+fn paired(options: u32, sink: Option<(u64, u16)>, group: Option<u16>) -> Zcl {
+    Zcl {
+        quiet: true,
+        sequence: 0,
+        body: Cluster::Pairing(Pairing {
+            options,
+            src: Src(0x8765_4321),
+            sink,
+            group,
+            device: Some(2),
+            counter: Some(1),
+            key: Some(Key(KEY)),
+            alias: None,
+            radius: None,
+        }),
+    }
+}
+
 #[test]
-fn more_values(rt: HostRuntime) {
+fn pairings_with_a_key(rt: HostRuntime) {
     let group = joined(&[
         &[0x19, 0x00, 0x01, 0x28, 0xE4, 0x00],
         &DEVICE,
         &[0x21, 0x43, 0x02, 0x01, 0x00, 0x00, 0x00],
         &KEY,
     ]);
-    let pairing = |options: u32, sink: Option<(u64, u16)>, group: Option<u16>| Pairing {
-        options,
-        src: Src(0x8765_4321),
-        sink,
-        group,
-        device: Some(2),
-        counter: Some(1),
-        key: Some(Key(KEY)),
-        alias: None,
-        radius: None,
-    };
-    let zcl = |pairing: Pairing| Zcl {
-        quiet: true,
-        sequence: 0,
-        body: Cluster::Pairing(pairing),
-    };
-    reads_as(
-        &rt,
-        group.as_slice(),
-        zcl(pairing(0xE428, None, Some(0x4321))),
-    );
+    reads_as(&rt, group.as_slice(), paired(0xE428, None, Some(0x4321)));
     let sink = joined(&[
         &[0x19, 0x00, 0x01, 0x68, 0xE4, 0x00],
         &DEVICE,
@@ -275,8 +283,21 @@ fn more_values(rt: HostRuntime) {
     reads_as(
         &rt,
         sink.as_slice(),
-        zcl(pairing(0xE468, Some((0x8807_0605_0403_0201, 0x0B0A)), None)),
+        paired(0xE468, Some((0x8807_0605_0403_0201, 0x0B0A)), None),
     );
+}
+
+#[test]
+fn a_commissioning_notification_with_proxy_and_mic(rt: HostRuntime) {
+    let notice = CommissioningNotice {
+        options: 0x0A08,
+        src: Src(7),
+        counter: 0,
+        command: 0xE0,
+        payload: Octets::of(&[0x02, 0xA1]),
+        proxy: Some((0x0011, 0x50)),
+        mic: Some([0x71, 0x72, 0x73, 0x74]),
+    };
     reads_as(
         &rt,
         &[
@@ -286,80 +307,70 @@ fn more_values(rt: HostRuntime) {
         Zcl {
             quiet: true,
             sequence: 1,
-            body: Cluster::CommissioningNotice(CommissioningNotice {
-                options: 0x0A08,
-                src: Src(7),
-                counter: 0,
-                command: 0xE0,
-                payload: Octets::of(&[0x02, 0xA1]),
-                proxy: Some((0x0011, 0x50)),
-                mic: Some([0x71, 0x72, 0x73, 0x74]),
-            }),
+            body: Cluster::CommissioningNotice(notice),
         },
     );
 }
 
+/// Octets that are no message, and why.
+const REFUSED: [(&[u8], ClusterReason); 23] = [
+    (&[], ClusterReason::Short { place: 0 }),
+    (&[0x10, 0x00], ClusterReason::Short { place: 2 }),
+    (&[0x10, 0x00, 0x00], ClusterReason::HeaderForm { place: 0 }),
+    (&[0x12, 0x00, 0x00], ClusterReason::HeaderForm { place: 0 }),
+    (&[0x13, 0x00, 0x00], ClusterReason::HeaderForm { place: 0 }),
+    (&[0x15, 0x00, 0x00], ClusterReason::HeaderForm { place: 0 }),
+    (&[0x31, 0x00, 0x00], ClusterReason::HeaderForm { place: 0 }),
+    (&[0x51, 0x00, 0x00], ClusterReason::HeaderForm { place: 0 }),
+    (&[0x91, 0x00, 0x07], ClusterReason::HeaderForm { place: 0 }),
+    (
+        &[0x11, 0x00, 0x01],
+        ClusterReason::CommandUnknown { place: 2 },
+    ),
+    (
+        &[0x11, 0x00, 0x06],
+        ClusterReason::CommandUnknown { place: 2 },
+    ),
+    (
+        &[0x19, 0x00, 0x00],
+        ClusterReason::CommandUnknown { place: 2 },
+    ),
+    (
+        &[0x19, 0x00, 0x04],
+        ClusterReason::CommandUnknown { place: 2 },
+    ),
+    (&[0x11, 0x00, 0x00, 0x01], ClusterReason::Short { place: 4 }),
+    (
+        &[0x11, 0x00, 0x00, 0x01, 0x00],
+        ClusterReason::AppId { place: 3 },
+    ),
+    (
+        &[0x11, 0x00, 0x04, 0x04, 0x00],
+        ClusterReason::AppId { place: 3 },
+    ),
+    (&[0x19, 0x00, 0x06, 0x02], ClusterReason::AppId { place: 3 }),
+    (
+        &[0x19, 0x00, 0x01, 0x01, 0x00],
+        ClusterReason::Short { place: 5 },
+    ),
+    (
+        &[0x19, 0x00, 0x01, 0x01, 0x00, 0x00],
+        ClusterReason::AppId { place: 3 },
+    ),
+    (
+        &[0x19, 0x00, 0x01, 0x08, 0x00, 0x00],
+        ClusterReason::Mode { place: 3 },
+    ),
+    (&[0x00; 127], ClusterReason::HeaderForm { place: 0 }),
+    (&[0x00; 128], ClusterReason::Long { place: 127 }),
+    (&[0x00; 200], ClusterReason::Long { place: 127 }),
+];
+
 #[test]
 fn refusals(rt: HostRuntime) {
-    let table: [(&[u8], ClusterReason); 21] = [
-        (&[], ClusterReason::Short { place: 0 }),
-        (&[0x10, 0x00], ClusterReason::Short { place: 2 }),
-        (&[0x10, 0x00, 0x00], ClusterReason::HeaderForm { place: 0 }),
-        (&[0x12, 0x00, 0x00], ClusterReason::HeaderForm { place: 0 }),
-        (&[0x13, 0x00, 0x00], ClusterReason::HeaderForm { place: 0 }),
-        (&[0x15, 0x00, 0x00], ClusterReason::HeaderForm { place: 0 }),
-        (&[0x31, 0x00, 0x00], ClusterReason::HeaderForm { place: 0 }),
-        (&[0x51, 0x00, 0x00], ClusterReason::HeaderForm { place: 0 }),
-        (&[0x91, 0x00, 0x07], ClusterReason::HeaderForm { place: 0 }),
-        (
-            &[0x11, 0x00, 0x01],
-            ClusterReason::CommandUnknown { place: 2 },
-        ),
-        (
-            &[0x11, 0x00, 0x06],
-            ClusterReason::CommandUnknown { place: 2 },
-        ),
-        (
-            &[0x19, 0x00, 0x00],
-            ClusterReason::CommandUnknown { place: 2 },
-        ),
-        (
-            &[0x19, 0x00, 0x04],
-            ClusterReason::CommandUnknown { place: 2 },
-        ),
-        (&[0x11, 0x00, 0x00, 0x01], ClusterReason::Short { place: 4 }),
-        (
-            &[0x11, 0x00, 0x00, 0x01, 0x00],
-            ClusterReason::AppId { place: 3 },
-        ),
-        (
-            &[0x11, 0x00, 0x04, 0x04, 0x00],
-            ClusterReason::AppId { place: 3 },
-        ),
-        (&[0x19, 0x00, 0x06, 0x02], ClusterReason::AppId { place: 3 }),
-        (
-            &[0x19, 0x00, 0x01, 0x01, 0x00],
-            ClusterReason::Short { place: 5 },
-        ),
-        (
-            &[0x19, 0x00, 0x01, 0x01, 0x00, 0x00],
-            ClusterReason::AppId { place: 3 },
-        ),
-        (
-            &[0x19, 0x00, 0x01, 0x08, 0x00, 0x00],
-            ClusterReason::Mode { place: 3 },
-        ),
-        (&[0x00; 128], ClusterReason::Long { place: 127 }),
-    ];
-    for (octets, reason) in table {
+    for (octets, reason) in REFUSED {
         assert_eq!(rt; decode(octets), Err(reason));
     }
-    let place = 127;
-    assert_eq!(rt;
-        decode(&[0x00; 127]),
-        Err(ClusterReason::HeaderForm { place: 0 })
-    );
-    assert_eq!(rt; decode(&[0x00; 200]), Err(ClusterReason::Long { place }));
 }
 
 /// A Notification of these, whose payload has so many octets.
