@@ -5,7 +5,9 @@ use Rattle.std.specs.Int.{w16, w32, from_le_bytes, to_le_bytes}
 use Rattle.std.proofs.lemmas.Bool.{cases_lt}
 use Rattle.std.proofs.lemmas.List.{take_at, drop_at, drop-drop, take-append-drop, length-take, get_or-drop, get_or-take, get_or_past}
 use Rattle.std.proofs.lemmas.Nat.{le_bytes_2, le_bytes_4, from_le_bytes-to_le_bytes_2, from_le_bytes-to_le_bytes_4}
-use Rattle.gp_base.specs.Field.{IsOctets, four_at, optional, part, two_at, octet, key_octets, counted, octet_at, key_at, size_if, value_if}
+use Rattle.gp_base.specs.Field.{IsOctets, agree, four_at, optional, part, two_at, octet, key_octets, counted, octet_at, key_at, size_if, value_if}
+use Rattle.gp_base.specs.declared.identity.Src.{Src}
+use Rattle.gp_base.proofs.Flags.{agree_is, agree_same}
 
 -- ---- octets
 
@@ -89,7 +91,7 @@ fixed_codec {X} n spell read Fit f = record {
 }
 
 -- a codec whose value at a place is told in another way
-retold : {X : Type 0} (spell : X → List ℕ) (size : List ℕ → ℕ → ℕ) (at : List ℕ → ℕ → X) (Fit : X → Type 0) → IsCodec spell size at Fit
+pub retold : {X : Type 0} (spell : X → List ℕ) (size : List ℕ → ℕ → ℕ) (at : List ℕ → ℕ → X) (Fit : X → Type 0) → IsCodec spell size at Fit
     → (told : List ℕ → ℕ → X) → ((b : List ℕ) (p : ℕ) → told b p ≡ at b p) → IsCodec spell size told Fit
 retold {X} spell size at Fit codec told same = record {
   split = λ b p bytes h.
@@ -99,19 +101,18 @@ retold {X} spell size at Fit codec told same = record {
       (same b p ∙ found.0, found.1);
 }
 
--- an octet of a part
-octet_of_part : (b : List ℕ) (p n i : ℕ) → i < n → slice_index b (p + i) ≡ slice_index (part b p n) i
+-- an octet of a part, and its first
+pub octet_of_part : (b : List ℕ) (p n i : ℕ) → i < n → slice_index b (p + i) ≡ slice_index (part b p n) i
 octet_of_part b p n i lt = sym (get_or-take n (drop p b) i 0 lt ∙ get_or-drop p b i 0)
 
+pub first_of_part : (b : List ℕ) (p n : ℕ) → 0 < n → slice_index b p ≡ slice_index (part b p n) 0
+first_of_part b p n lt = ap (λ (k : ℕ). slice_index b k) (sym (add-zero p)) ∙ octet_of_part b p n 0 lt
+
 two_told : (b : List ℕ) (p : ℕ) → two_at b p ≡ from_le_bytes w16 (part b p 2)
-two_told b p =
-    let first = ap (λ (k : ℕ). slice_index b k) (sym (add-zero p)) ∙ octet_of_part b p 2 0 (omega arith) in
-    rw (first, octet_of_part b p 2 1 (omega arith)) refl
+two_told b p = rw (first_of_part b p 2 (omega arith), octet_of_part b p 2 1 (omega arith)) refl
 
 four_told : (b : List ℕ) (p : ℕ) → four_at b p ≡ from_le_bytes w32 (part b p 4)
-four_told b p =
-    let first = ap (λ (k : ℕ). slice_index b k) (sym (add-zero p)) ∙ octet_of_part b p 4 0 (omega arith) in
-    rw (first, octet_of_part b p 4 1 (omega arith), octet_of_part b p 4 2 (omega arith), octet_of_part b p 4 3 (omega arith)) refl
+four_told b p = rw (first_of_part b p 4 (omega arith), octet_of_part b p 4 1 (omega arith), octet_of_part b p 4 2 (omega arith), octet_of_part b p 4 3 (omega arith)) refl
 
 pub number16_codec : IsCodec (to_le_bytes w16) (λ _ _. 2) two_at (λ n. n < 2 ^ 16)
 number16_codec = retold _ _ _ _ (fixed_codec 2 (to_le_bytes w16) (from_le_bytes w16) (λ n. n < 2 ^ 16) (record {
@@ -128,6 +129,13 @@ number32_codec = retold _ _ _ _ (fixed_codec 4 (to_le_bytes w32) (from_le_bytes 
   fit = λ xs bytes len. omega (arith, bytes 0, bytes 1, bytes 2, bytes 3);
   again = λ n lt. from_le_bytes-to_le_bytes_4 n lt;
 })) four_at four_told
+
+-- a SrcID in four octets
+pub src_codec : IsCodec {X = Src} (λ src. to_le_bytes w32 src.0) (λ _ _. 4) (λ b p. record { 0 = four_at b p }) (λ src. src.0 < 2 ^ 32)
+src_codec = record {
+  split = λ b p bytes h. number32_codec.split b p bytes h;
+  again = λ b p x r at fit. let k = number32_codec.again b p x.0 r at fit in (ap (λ (n : ℕ). record { 0 = n }) k.0, k.1);
+}
 
 pub octets_codec : (n : ℕ) → IsCodec (λ (xs : List ℕ). xs) (λ _ _. n) (λ b p. part b p n) (λ xs. length xs ≡ n)
 octets_codec n = fixed_codec n (λ xs. xs) (λ xs. xs) (λ xs. length xs ≡ n) (record {
@@ -186,6 +194,18 @@ led_codec size = record {
 pub record IsField {X : Type 0} (there : Bool) (Fit : X → Type 0) (o : Option X) : Type 0 where
   pub there_is : is_some o ≡ there
   pub fit : IfSome o Fit
+
+-- the same by the test of a program, and back
+pub field_from : {X : Type 0} (there : Bool) (Fit : X → Type 0) (o : Option X) → agree (is_some o) there ≡ true → IfSome o Fit → IsField there Fit o
+field_from there Fit o e fit = record { there_is = agree_is _ _ e; fit = fit }
+
+pub field_agrees : {X : Type 0} (there : Bool) (Fit : X → Type 0) (o : Option X) → IsField there Fit o → agree (is_some o) there ≡ true
+field_agrees there Fit o field = agree_same _ _ field.there_is
+
+-- a value of which nothing is asked fits
+pub anything : {X : Type 0} (o : Option X) → IfSome o (λ _. Unit {0})
+anything None = tt
+anything (Some x) = tt
 
 optional_split : {X : Type 0} (spell : X → List ℕ) (size : List ℕ → ℕ → ℕ) (at : List ℕ → ℕ → X) (Fit : X → Type 0) → IsCodec spell size at Fit
     → (there : Bool) (b : List ℕ) (p : ℕ) → IsOctets b → p + size_if there (size b p) ≤ length b

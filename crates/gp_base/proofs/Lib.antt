@@ -1,2 +1,3 @@
 pub mod Codec
+pub mod Flags
 pub mod Tables

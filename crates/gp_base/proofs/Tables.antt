@@ -1,6 +1,7 @@
--- Tables of tests, one behind the other.
-use Rattle.std.proofs.Common.{◌≡◌, Bool, true, false, List, [], ◌∷◌, ◌++◌, Some, None, refl}
-use Rattle.gp_base.specs.Table.{first_of}
+-- Tables of tests, one behind the other; and a reason or a value.
+use Rattle.std.proofs.Common.{◌≡◌, Bool, true, false, cond, List, [], ◌∷◌, ◌++◌, Option, Some, None, Result, refl, sym, subst}
+use Rattle.std.specs.Prelude.{IfOk, IfErr}
+use Rattle.gp_base.specs.Table.{first_of, answer}
 
 -- the first of two tables decides where one of its tests holds
 pub first_of-append-some : {A : Type 0} (front back : List (Bool × A)) (found : A) → first_of front ≡ Some found → first_of (front ++ back) ≡ Some found
@@ -29,3 +30,18 @@ pub first_of-none : {A : Type 0} (lines : List (Bool × A)) → first_of lines �
 first_of-none [] h = tt
 first_of-none ((true, a) ∷ lines) h = absurd cc
 first_of-none ((false, a) ∷ lines) h = (refl, first_of-none lines h)
+
+-- no reason in the first line of a table
+pub first_none : {X : Type 0} (test : Bool) (x : X) (rest : Option X) → cond test (Some x) rest ≡ None → (test ≡ false) × (rest ≡ None)
+first_none true x rest e = absurd cc
+first_none false x rest e = (refl, e)
+
+-- what is answered is the value, where there is no reason
+pub answer_finds : {X E : Type 0} (reason : Option E) (value : X) (P : X → Type 0) (r : Result X E) → (reason ≡ None → P value) → r ≡ answer reason value → IfOk r P
+answer_finds {X} {E} None value P r h e = subst (λ (x : Result X E). IfOk x P) (sym e) (h refl)
+answer_finds {X} {E} (Some a) value P r h e = subst (λ (x : Result X E). IfOk x P) (sym e) tt
+
+-- and else the reason
+pub answer_refuses : {X E : Type 0} (reason : Option E) (value : X) (r : Result X E) → r ≡ answer reason value → IfErr r (λ told. reason ≡ Some told)
+answer_refuses {X} {E} None value r e = subst (λ (x : Result X E). IfErr x (λ told. None ≡ Some told)) (sym e) tt
+answer_refuses {X} {E} (Some a) value r e = subst (λ (x : Result X E). IfErr x (λ told. Some a ≡ Some told)) (sym e) refl

@@ -1,27 +1,13 @@
 -- The fields of the messages at places, and spelled out.
-use Rattle.std.proofs.Common.{◌≡◌, ℕ, zero, suc, ◌+◌, ◌^◌, ◌<◌, ◌≤◌, Bool, true, false, not, eqb, List, [], ◌∷◌, ◌++◌, length, take, drop, Option, Some, None, refl, sym, ap, subst, ◌∙◌, append_assoc, add-zero, arith}
-use Rattle.std.specs.Prelude.{slice_index}
-use Rattle.std.specs.Int.{w32, w64, from_le_bytes, to_le_bytes}
+use Rattle.std.proofs.Common.{◌≡◌, ℕ, zero, suc, ◌+◌, ◌^◌, ◌<◌, ◌≤◌, Bool, true, false, not, eqb, List, [], ◌∷◌, ◌++◌, length, take, drop, Option, Some, None, refl, ap, subst, ◌∙◌, append_assoc, arith}
+use Rattle.std.specs.Int.{w64, from_le_bytes, to_le_bytes}
 use Rattle.std.proofs.lemmas.Bool.{eqb-true, eqb-false, ne_eqb}
-use Rattle.std.proofs.lemmas.List.{get_or-drop, get_or-take}
 use Rattle.std.proofs.lemmas.Nat.{le_bytes_4, le_bytes_8, from_le_bytes-to_le_bytes_8}
 use Rattle.gp_base.specs.Field.{IsOctets, octet_at, part, size_if, value_if}
-use Rattle.gp_base.specs.declared.identity.Src.{Src}
-use Rattle.gp_base.proofs.Codec.{At, At-after, At-octet, IsCodec, split_octet, length-octets_at, octet_codec, number16_codec, number32_codec, counted_codec, fixed_codec}
-use Rattle.gp_cluster.specs.Fields.{three_octets, three_at, eight_at, src_at, octet_string, IsString, string_size, string_at, proxy_octets, proxy_at, sink_octets, sink_at}
+use Rattle.gp_base.proofs.Codec.{At, At-after, At-octet, IsCodec, split_octet, length-octets_at, octet_codec, number16_codec, counted_codec, fixed_codec, retold, octet_of_part, first_of_part}
+use Rattle.gp_cluster.specs.Fields.{three_octets, three_at, eight_at, octet_string, IsString, string_size, string_at, proxy_octets, proxy_at, sink_octets, sink_at}
 
 -- ---- codecs from codecs
-
--- a codec whose value at a place is told in another way
-retold : {X : Type 0} (spell : X → List ℕ) (size : List ℕ → ℕ → ℕ) (at : List ℕ → ℕ → X) (Fit : X → Type 0) → IsCodec spell size at Fit
-    → (told : List ℕ → ℕ → X) → ((b : List ℕ) (p : ℕ) → told b p ≡ at b p) → IsCodec spell size told Fit
-retold {X} spell size at Fit codec told same = record {
-  split = λ b p bytes h.
-      subst (λ (x : X). (drop p b ≡ spell x ++ drop (p + size b p) b) × Fit x) (sym (same b p)) (codec.split b p bytes h);
-  again = λ b p x r here fit.
-      let found = codec.again b p x r here fit in
-      (same b p ∙ found.0, found.1);
-}
 
 -- a codec whose fitting values are told in another way
 refit : {X : Type 0} (spell : X → List ℕ) (size : List ℕ → ℕ → ℕ) (at : List ℕ → ℕ → X) (Fit Other : X → Type 0) → IsCodec spell size at Fit
@@ -52,12 +38,6 @@ pair_codec {X} {Y} n m first first_at First second second_at Second one two = re
 }
 
 -- ---- numbers
-
-octet_of_part : (b : List ℕ) (p n i : ℕ) → i < n → slice_index b (p + i) ≡ slice_index (part b p n) i
-octet_of_part b p n i lt = sym (get_or-take n (drop p b) i 0 lt ∙ get_or-drop p b i 0)
-
-first_of_part : (b : List ℕ) (p n : ℕ) → 0 < n → slice_index b p ≡ slice_index (part b p n) 0
-first_of_part b p n lt = ap (λ (k : ℕ). slice_index b k) (sym (add-zero p)) ∙ octet_of_part b p n 0 lt
 
 three_told : (b : List ℕ) (p : ℕ) → three_at b p ≡ three_at (part b p 3) 0
 three_told b p = rw (first_of_part b p 3 (omega arith), octet_of_part b p 3 1 (omega arith), octet_of_part b p 3 2 (omega arith)) refl
@@ -104,12 +84,6 @@ number64_codec = retold _ _ _ _ (fixed_codec 8 (to_le_bytes w64) (from_le_bytes 
   fit = λ xs bytes len. omega (arith, bytes 0, bytes 1, bytes 2, bytes 3, bytes 4, bytes 5, bytes 6, bytes 7);
   again = λ n lt. from_le_bytes-to_le_bytes_8 n lt;
 })) eight_at eight_told
-
-pub src_codec : IsCodec {X = Src} (λ src. to_le_bytes w32 src.0) (λ _ _. 4) src_at (λ src. src.0 < 2 ^ 32)
-src_codec = record {
-  split = λ b p bytes h. number32_codec.split b p bytes h;
-  again = λ b p x r at fit. let k = number32_codec.again b p x.0 r at fit in (ap (λ (n : ℕ). record { 0 = n }) k.0, k.1);
-}
 
 -- ---- addresses
 

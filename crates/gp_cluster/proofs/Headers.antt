@@ -1,7 +1,8 @@
 -- The header: the control octet by its bits, and the message by direction and number.
 use Rattle.std.proofs.Common.{◌≡◌, ℕ, zero, suc, ◌/◌, ◌%◌, ◌<◌, ◌⊎◌, inl, inr, Bool, true, false, cond, not, eqb, Option, Some, None, refl, ap, ◌∙◌, arith}
 use Rattle.std.proofs.lemmas.Bool.{and_parts, eqb-true}
-use Rattle.gp_base.specs.Field.{flag, has_bit}
+use Rattle.gp_base.specs.Field.{has_bit}
+use Rattle.gp_base.proofs.Flags.{flag_is}
 use Rattle.gp_cluster.specs.declared.kind.Kind.{Kind}
 use Rattle.gp_cluster.specs.declared.kind.Kind.TheVariants.{Notification, CommissioningNotice, Pairing, ProxyMode, Response}
 use Rattle.gp_cluster.specs.Kind.{kind_of, is_from_sink, command_number}
@@ -19,11 +20,6 @@ says_control true true = record { form = refl; from_sink_is = refl; quiet_is = r
 says_control true false = record { form = refl; from_sink_is = refl; quiet_is = refl }
 says_control false true = record { form = refl; from_sink_is = refl; quiet_is = refl }
 says_control false false = record { form = refl; from_sink_is = refl; quiet_is = refl }
-
-flag_is : (n : ℕ) → n < 2 → flag (eqb n 1) ≡ n
-flag_is zero h = refl
-flag_is (suc zero) h = refl
-flag_is (suc (suc n)) h = absurd (omega arith)
 
 clear_bit : (n : ℕ) → n < 2 → not (eqb n 1) ≡ true → n ≡ 0
 clear_bit zero h e = refl

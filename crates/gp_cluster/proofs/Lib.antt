@@ -1,4 +1,4 @@
-pub mod Answers
+pub mod Endings
 pub mod FieldCodecs
 pub mod Headers
 pub mod Messages

@@ -1,11 +1,11 @@
 -- Messages at their places, and spelled out; and the clauses of the calls.
-use Rattle.std.proofs.Common.{◌≡◌, ℕ, ◌≤◌, Bool, true, false, not, ltb, List, [], ◌∷◌, length, drop, Option, Some, None, Result, Ok, Err, refl, sym, ap, subst, ◌∙◌, arith}
-use Rattle.std.specs.Prelude.{IfOk, IfErr, IsTrue}
-use Rattle.std.specs.Bool.{OnTrue}
-use Rattle.std.proofs.lemmas.Bool.{ltb-false, le-ltb}
+use Rattle.std.proofs.Common.{◌≡◌, ℕ, ◌≤◌, true, false, not, ltb, List, [], ◌∷◌, length, drop, Option, Some, None, Result, Ok, Err, refl, sym, ap, subst, ◌∙◌, arith}
+use Rattle.std.specs.Prelude.{IfOk, IfErr}
+use Rattle.std.proofs.lemmas.Bool.{not-false, ltb-false, le-ltb}
 use Rattle.gp_base.specs.Field.{IsOctets, has_bit, octet_at}
 use Rattle.gp_base.specs.Table.{answer, let_else, or_else}
 use Rattle.gp_base.proofs.Codec.{At, At-after, At-octet, split_octet}
+use Rattle.gp_base.proofs.Tables.{first_none, answer_finds, answer_refuses}
 use Rattle.gp_cluster.specs.declared.kind.Kind.{Kind}
 use Rattle.gp_cluster.specs.declared.kind.Kind.TheVariants as kinds
 use Rattle.gp_cluster.specs.declared.message.Zcl.{Zcl}
@@ -15,7 +15,6 @@ use Rattle.gp_cluster.specs.declared.message.ClusterReason.{ClusterReason}
 use Rattle.gp_cluster.specs.declared.message.ClusterReason.TheVariants.{Short, HeaderForm, CommandUnknown, Long}
 use Rattle.gp_cluster.specs.Kind.{kind_in, kind_of, is_from_sink, command_number}
 use Rattle.gp_cluster.specs.Message.{control, body, spelling, fields_agree, HasWidths, Message, IsValid, has_header_form, header_reason, kind_at, body_reason, body_at, message_at, first_reason, reading_behind, reading}
-use Rattle.gp_cluster.proofs.Answers.{first_none, true_from}
 use Rattle.gp_cluster.proofs.Headers.{SaysControl, says_control, control_again, is_kind, kind_again}
 use Rattle.gp_cluster.proofs.Notices.{notification_found, notification_again, notice_found, notice_again}
 use Rattle.gp_cluster.proofs.Pairings.{pairing_found, pairing_again}
@@ -54,7 +53,7 @@ is_header b h =
     let one = first_none (ltb 127 (length b)) (Long 127) _ h in
     let two = first_none (ltb (length b) 3) (Short (length b)) _ one.1 in
     let three = first_none (not (has_header_form (octet_at b 0))) (HeaderForm 0) None two.1 in
-    record { limit = ltb-false _ _ one.0; long = ltb-false _ _ two.0; form = true_from _ three.0 }
+    record { limit = ltb-false _ _ one.0; long = ltb-false _ _ two.0; form = not-false _ three.0 }
 
 three_first : (b : List ℕ) → 3 ≤ length b → b ≡ octet_at b 0 ∷ octet_at b 1 ∷ octet_at b 2 ∷ drop 3 b
 three_first b long =
@@ -150,10 +149,6 @@ first_by header kind reason = or_else header (let_else kind (Some (CommandUnknow
 abbrev read_by : Option ClusterReason → Option Kind → (Kind → Option ClusterReason) → (Kind → Zcl) → Result Zcl ClusterReason
 read_by header kind reason value = let_else header (let_else kind (Err (CommandUnknown 2)) (λ k. answer (reason k) (value k))) (λ r. Err r)
 
-answer_refuses : (o : Option ClusterReason) (z : Zcl) (r : Result Zcl ClusterReason) → r ≡ answer o z → IfErr r (λ reason. o ≡ Some reason)
-answer_refuses None z r e = subst (λ (x : Result Zcl ClusterReason). IfErr x (λ reason. None ≡ Some reason)) (sym e) tt
-answer_refuses (Some a) z r e = subst (λ (x : Result Zcl ClusterReason). IfErr x (λ reason. Some a ≡ Some reason)) (sym e) refl
-
 refuses_by : (h : Option ClusterReason) (k : Option Kind) (f : Kind → Option ClusterReason) (v : Kind → Zcl) (r : Result Zcl ClusterReason) → r ≡ read_by h k f v → IfErr r (λ reason. first_by h k f ≡ Some reason)
 refuses_by (Some a) k f v r e = subst (λ (x : Result Zcl ClusterReason). IfErr x (λ reason. Some a ≡ Some reason)) (sym e) refl
 refuses_by None None f v r e = subst (λ (x : Result Zcl ClusterReason). IfErr x (λ reason. Some (CommandUnknown 2) ≡ Some reason)) (sym e) refl
@@ -163,10 +158,6 @@ reason_by : (h : Option ClusterReason) (k : Option Kind) (f : Kind → Option Cl
 reason_by (Some a) k f v reason e = cc
 reason_by None None f v reason e = cc
 reason_by None (Some k) f v reason e = ap (λ (o : Option ClusterReason). answer o (v k)) e
-
-answer_finds : (o : Option ClusterReason) (z : Zcl) (P : Zcl → Type 0) (r : Result Zcl ClusterReason) → (o ≡ None → P z) → r ≡ answer o z → IfOk r P
-answer_finds None z P r h e = subst (λ (x : Result Zcl ClusterReason). IfOk x P) (sym e) (h refl)
-answer_finds (Some a) z P r h e = subst (λ (x : Result Zcl ClusterReason). IfOk x P) (sym e) tt
 
 finds_by : (h : Option ClusterReason) (k : Option Kind) (f : Kind → Option ClusterReason) (v : Kind → Zcl) (P : Zcl → Type 0) (r : Result Zcl ClusterReason)
     → ((x : Kind) → h ≡ None → k ≡ Some x → f x ≡ None → P (v x)) → r ≡ read_by h k f v → IfOk r P
@@ -196,7 +187,3 @@ valid_back z h = (h.1.fields, subst (λ (xs : List ℕ). length xs ≤ 127) h.1.
 
 pub encoded : (z : Zcl) (octets : List ℕ) → IsValid z → octets ≡ spelling z → Message z octets
 encoded z octets h e = subst (λ (xs : List ℕ). Message z xs) (h.1.spelled ∙ sym e) h.1
-
-pub on_true : (t : Bool) (P : Type 0) → OnTrue t P → IsTrue t → P
-on_true true P h t = h
-on_true false P h t = absurd cc

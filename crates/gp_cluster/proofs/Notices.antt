@@ -2,16 +2,17 @@
 use Rattle.std.proofs.Common.{◌≡◌, ℕ, ◌≤◌, true, false, not, eqb, ltb, List, [], ◌++◌, length, drop, None, refl, sym, ap, subst, ◌∙◌, append_assoc, arith}
 use Rattle.std.specs.Prelude.{is_some}
 use Rattle.std.specs.Int.{w16, to_le_bytes}
-use Rattle.std.proofs.lemmas.Bool.{and_parts, and_from, ltb-false, le-ltb}
+use Rattle.std.proofs.lemmas.Bool.{not-false, and_parts, and_from, ltb-false, le-ltb}
 use Rattle.gp_base.specs.Field.{IsOctets, agree, optional, two_at}
-use Rattle.gp_base.proofs.Codec.{At, IsField, number16_codec, octets_codec, optional_codec, join}
+use Rattle.gp_base.proofs.Codec.{At, IsField, field_from, field_agrees, number16_codec, octets_codec, optional_codec, join}
 use Rattle.gp_cluster.specs.declared.message.Notification.{Notification}
 use Rattle.gp_cluster.specs.declared.message.CommissioningNotice.{CommissioningNotice}
 use Rattle.gp_cluster.specs.declared.message.ClusterReason.TheVariants.{Short, AppId}
 use Rattle.gp_cluster.specs.Options.{application_id, has_proxy, notice_has_proxy, has_failed}
 use Rattle.gp_cluster.specs.Inside.{tunnel_octets, tunnel_of, notice_tunnel_of}
 use Rattle.gp_cluster.specs.Notified.{notification, notification_agrees, HasNotificationWidths, notification_end, notification_reason, notification_at, notice, notice_agrees, HasNoticeWidths, mic_place, notice_end, notice_reason, notice_at}
-use Rattle.gp_cluster.proofs.Answers.{first_none, true_from, field_from, field_agrees, exact_end, no_fault, at_end, with_end, end_met}
+use Rattle.gp_base.proofs.Tables.{first_none}
+use Rattle.gp_cluster.proofs.Endings.{exact_end, no_fault, at_end, with_end, end_met}
 use Rattle.gp_cluster.proofs.Tunnels.{HasTunnel, tunnel_split, tunnel_again}
 
 -- ---- Notification
@@ -33,7 +34,7 @@ notification_found b bytes h =
     let tunnel = tunnel_split (has_proxy opts) b bytes (omega (arith, total)) in
     let all = join b 3 5 (to_le_bytes w16 opts) _ options.0 tunnel.0 in (
       at_end b 3 end _ total (all ∙ sym (notification_in_order (notification_at b) (drop end b))),
-      and_from _ _ (true_from _ two.0) (field_agrees _ _ _ tunnel.1.proxy),
+      and_from _ _ (not-false _ two.0) (field_agrees _ _ _ tunnel.1.proxy),
       record { options = options.1; src = tunnel.1.src; counter = tunnel.1.counter; payload = tunnel.1.payload; proxy = tunnel.1.proxy.fit },
     )
 
@@ -73,7 +74,7 @@ notice_found b bytes h =
     let mic = (optional_codec _ _ _ _ (octets_codec 4) (has_failed opts)).split b (mic_place b) bytes (omega (arith, total)) in
     let all = join b 3 5 (to_le_bytes w16 opts) _ options.0 (join b 5 (mic_place b) _ _ tunnel.0 mic.0) in (
       at_end b 3 end _ total (all ∙ sym (notice_in_order (notice_at b) (drop end b))),
-      and_from _ _ (and_from _ _ (true_from _ two.0) (field_agrees _ _ _ tunnel.1.proxy)) (field_agrees _ _ _ mic.1),
+      and_from _ _ (and_from _ _ (not-false _ two.0) (field_agrees _ _ _ tunnel.1.proxy)) (field_agrees _ _ _ mic.1),
       record { options = options.1; src = tunnel.1.src; counter = tunnel.1.counter; payload = tunnel.1.payload; proxy = tunnel.1.proxy.fit; mic = mic.1.fit },
     )
 

@@ -2,9 +2,9 @@
 use Rattle.std.proofs.Common.{◌≡◌, ℕ, ◌^◌, ◌<◌, ◌≤◌, true, false, not, eqb, ltb, List, [], ◌++◌, length, drop, None, refl, sym, ap, subst, ◌∙◌, append_assoc, arith}
 use Rattle.std.specs.Prelude.{is_some}
 use Rattle.std.specs.Int.{w16, w32, to_le_bytes}
-use Rattle.std.proofs.lemmas.Bool.{and_parts, and_from, ltb-false, le-ltb, ltb-true, lt-ltb}
+use Rattle.std.proofs.lemmas.Bool.{not-true, not-false, and_parts, and_from, ltb-false, le-ltb, ltb-true, lt-ltb}
 use Rattle.gp_base.specs.Field.{IsOctets, agree, octet, four_at, optional, key_octets}
-use Rattle.gp_base.proofs.Codec.{At, IsField, octet_codec, number16_codec, number32_codec, key_codec, optional_codec, join}
+use Rattle.gp_base.proofs.Codec.{At, IsField, field_from, field_agrees, anything, src_codec, octet_codec, number16_codec, number32_codec, key_codec, optional_codec, join}
 use Rattle.gp_cluster.specs.declared.message.Pairing.{Pairing}
 use Rattle.gp_cluster.specs.declared.message.ClusterReason.TheVariants.{Short, AppId, Mode}
 use Rattle.gp_cluster.specs.declared.pairing.Route.{Route}
@@ -13,8 +13,9 @@ use Rattle.gp_cluster.specs.Fields.{three_octets, three_at, sink_octets}
 use Rattle.gp_cluster.specs.Options.{application_id, adds_sink, lacks_mode, has_sink, has_group, has_counter, has_key, has_alias, has_radius}
 use Rattle.gp_cluster.specs.Inside.{route_octets, extras_octets, route_of, extras_of}
 use Rattle.gp_cluster.specs.Paired.{pairing, route_agrees, extras_agree, pairing_agrees, HasPairingWidths, group_place, device_place, route_end, route_at, key_place, alias_place, radius_place, extras_end, extras_at, pairing_end, pairing_reason, pairing_at}
-use Rattle.gp_cluster.proofs.Answers.{first_none, true_from, false_from, field_from, field_agrees, anything, exact_end, no_fault, at_end, with_end, end_met}
-use Rattle.gp_cluster.proofs.FieldCodecs.{number24_codec, src_codec, sink_codec}
+use Rattle.gp_base.proofs.Tables.{first_none}
+use Rattle.gp_cluster.proofs.Endings.{exact_end, no_fault, at_end, with_end, end_met}
+use Rattle.gp_cluster.proofs.FieldCodecs.{number24_codec, sink_codec}
 use Rattle.gp_cluster.proofs.Places.{extras_end_above}
 
 -- ---- the device, and where its frames go
@@ -114,7 +115,7 @@ fields_from m e widths =
     let e3 = and_parts _ (agree (is_some m.key) (has_key m.options)) e2.0 in
     record {
       application = r4.0;
-      mode = false_from _ r4.1;
+      mode = not-true _ r4.1;
       small = ltb-true _ _ front.0;
       route = record {
         src = widths.src;
@@ -174,7 +175,7 @@ pairing_found b bytes h =
     let route = route_split opts b bytes before in
     let extras = extras_split opts b (route_end opts) bytes fits in
     let all = join b 3 6 (three_octets opts) _ options.0 (join b 6 (route_end opts) _ _ route.0 extras.0) in
-    let tested = fields_tested (pairing_at b) (record { application = true_from _ two.0; mode = three.0; small = options.1; route = route.1; extras = extras.1 }) in
+    let tested = fields_tested (pairing_at b) (record { application = not-false _ two.0; mode = three.0; small = options.1; route = route.1; extras = extras.1 }) in
     (at_end b 3 end _ total (all ∙ sym (pairing_in_order (pairing_at b) (drop end b))), tested.0, tested.1)
 
 pub pairing_again : (b : List ℕ) (m : Pairing) → At b 3 (pairing m) → pairing_agrees m ≡ true → HasPairingWidths m

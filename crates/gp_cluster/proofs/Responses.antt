@@ -1,16 +1,17 @@
 -- A Response at its places, and spelled out.
 use Rattle.std.proofs.Common.{◌≡◌, ℕ, ◌≤◌, true, false, not, eqb, ltb, List, [], ◌++◌, length, drop, None, refl, sym, ap, ◌∙◌, append_assoc, arith}
 use Rattle.std.specs.Int.{w16, w32, to_le_bytes}
-use Rattle.std.proofs.lemmas.Bool.{le-ltb}
+use Rattle.std.proofs.lemmas.Bool.{not-false, le-ltb}
 use Rattle.gp_base.specs.Field.{IsOctets, octet, octet_at, two_at, four_at}
-use Rattle.gp_base.proofs.Codec.{At, octet_codec, number16_codec, join}
+use Rattle.gp_base.proofs.Codec.{At, src_codec, octet_codec, number16_codec, join}
 use Rattle.gp_cluster.specs.declared.message.Response.{Response}
 use Rattle.gp_cluster.specs.declared.message.ClusterReason.TheVariants.{Short, AppId}
 use Rattle.gp_cluster.specs.Options.{application_id}
 use Rattle.gp_cluster.specs.Fields.{octet_string}
 use Rattle.gp_cluster.specs.Responded.{response, response_agrees, HasResponseWidths, response_end, response_reason, response_at}
-use Rattle.gp_cluster.proofs.Answers.{first_none, true_from, exact_end, no_fault, at_end, with_end, end_met}
-use Rattle.gp_cluster.proofs.FieldCodecs.{src_codec, string_codec}
+use Rattle.gp_base.proofs.Tables.{first_none}
+use Rattle.gp_cluster.proofs.Endings.{exact_end, no_fault, at_end, with_end, end_met}
+use Rattle.gp_cluster.proofs.FieldCodecs.{string_codec}
 
 response_in_order : (m : Response) (r : List ℕ) → response m ++ r ≡ octet m.options ++ (to_le_bytes w16 m.master ++ (octet m.channel ++ (to_le_bytes w32 m.src.0 ++ (octet m.command ++ (octet_string m.payload ++ r)))))
 unfolding response
@@ -33,7 +34,7 @@ response_found b bytes h =
     let payload = string_codec.split b 12 bytes fits in
     let all = join b 3 4 (octet opts) _ options.0 (join b 4 6 (to_le_bytes w16 (two_at b 4)) _ master.0 (join b 6 7 (octet (octet_at b 6)) _ channel.0 (join b 7 11 (to_le_bytes w32 (four_at b 7)) _ src.0 (join b 11 12 (octet (octet_at b 11)) _ command.0 payload.0)))) in (
       at_end b 3 end _ total (all ∙ sym (response_in_order (response_at b) (drop end b))),
-      true_from _ two.0,
+      not-false _ two.0,
       record { master = master.1; src = src.1; payload = payload.1 },
     )
 

@@ -16,7 +16,7 @@ use Rattle.gp_commands.specs.Report.{entries_reason}
 use Rattle.gp_commands.specs.Commissioning.{commissioning, commissioning_at}
 use Rattle.gp_commands.specs.Reply.{reply, reply_at}
 use Rattle.gp_commands.specs.Command.{spelling, HasForm, HasWidths, Command, ends_before, payload_reason, payload_at, first_reason, reading}
-use Rattle.gp_commands.proofs.Answers.{answer_ok, answer_err, first_none}
+use Rattle.gp_base.proofs.Tables.{first_none, answer_finds, answer_refuses}
 use Rattle.gp_base.proofs.Codec.{number16_codec, split_octet}
 use Rattle.gp_commands.proofs.Commissioned.{fields_from, fields_tested, commissioning_found, commissioning_again}
 use Rattle.gp_commands.proofs.Entries.{records_from, no_reason}
@@ -142,15 +142,11 @@ again c b command =
 
 pub is_found : (b : List ℕ) (r : Result GpdCommand CommandReason) → IsOctets b → length b ≤ 117 → r ≡ reading b → IfOk r (λ command. Command command b)
 unfolding reading
-is_found b (Ok command) bytes room e =
-    let parts = answer_ok (first_reason b) (payload_at (form_of (octet_at b 0)) b) command e in
-    subst (λ (c : GpdCommand). Command c b) (sym parts.1) (found b bytes room parts.0)
-is_found b (Err reason) bytes room e = tt
+is_found b r bytes room e = answer_finds (first_reason b) (payload_at (form_of (octet_at b 0)) b) (λ command. Command command b) r (found b bytes room) e
 
 pub is_refused : (b : List ℕ) (r : Result GpdCommand CommandReason) → r ≡ reading b → IfErr r (λ reason. first_reason b ≡ Some reason)
 unfolding reading
-is_refused b (Ok command) e = tt
-is_refused b (Err reason) e = answer_err (first_reason b) (payload_at (form_of (octet_at b 0)) b) reason e
+is_refused b r e = answer_refuses (first_reason b) (payload_at (form_of (octet_at b 0)) b) r e
 
 pub refuses : (b : List ℕ) (reason : CommandReason) → first_reason b ≡ Some reason → reading b ≡ Err reason
 unfolding reading

@@ -11,9 +11,9 @@ use Rattle.gp_commands.specs.declared.keying.Keying.{Keying}
 use Rattle.gp_commands.specs.Keying.{reserved}
 use Rattle.gp_commands.specs.Application.{clusters_size, clusters_agree}
 use Rattle.gp_commands.specs.Commissioning.{level, key_kind, wanted_by, commissioning, security_agrees, application_agrees, fields_agree, HasCommissioningWidths, extended_at, keying_place, application_place, rest_place, commissioning_reason, commissioning_at}
-use Rattle.gp_commands.proofs.Answers.{first_none, agree_is, agree_same}
+use Rattle.gp_base.proofs.Tables.{first_none}
 use Rattle.gp_commands.proofs.Applied.{HasApplication, information_octets, unwrap-value_if, application_split, application_again}
-use Rattle.gp_base.proofs.Codec.{At, IsField, optional_codec, octet_codec, join}
+use Rattle.gp_base.proofs.Codec.{At, IsField, field_from, field_agrees, anything, optional_codec, octet_codec, join}
 use Rattle.gp_commands.proofs.Keyed.{HasKeying, keying_codec}
 use Rattle.gp_commands.proofs.Places.{application_end_above}
 
@@ -33,10 +33,6 @@ pub record HasFields (c : Commissioning) : Type 0 where
   pub free : reserved (level (extended_of c)) (key_kind (extended_of c)) ≡ None
   pub keying : HasKeying (wanted_by (extended_of c)) (keying_of c)
   pub application : HasApplication c.options (application_of c)
-
-pub anything : {X : Type 0} (o : Option X) → IfSome o (λ _. Unit {0})
-anything None = tt
-anything (Some x) = tt
 
 pub none_of_test : {X : Type 0} (o : Option X) → is_none o ≡ true → o ≡ None
 none_of_test None e = refl
@@ -63,34 +59,34 @@ fields_from c e widths =
     let a4 = and_parts _ _ a3.0 in
     let a5 = and_parts _ _ a4.0 in
     record {
-      extended = record { there_is = agree_is _ _ s4.0; fit = anything c.extended };
+      extended = field_from _ _ _ s4.0 (anything c.extended);
       free = none_of_test _ s4.1;
       keying = record {
-        key = record { there_is = agree_is _ _ s3.1; fit = widths.key };
-        mic = record { there_is = agree_is _ _ s2.1; fit = widths.mic };
-        counter = record { there_is = agree_is _ _ s1.1; fit = widths.counter };
+        key = field_from _ _ _ s3.1 widths.key;
+        mic = field_from _ _ _ s2.1 widths.mic;
+        counter = field_from _ _ _ s1.1 widths.counter;
       };
       application = record {
-        information = record { there_is = agree_is _ _ a5.0; fit = anything c.application };
-        manufacturer = record { there_is = agree_is _ _ a5.1; fit = widths.manufacturer };
-        model = record { there_is = agree_is _ _ a4.1; fit = widths.model };
-        commands = record { there_is = agree_is _ _ a3.1; fit = anything c.commands };
-        clusters = record { there_is = agree_is _ _ a2.1; fit = clusters_fit c.clusters a1.1 };
+        information = field_from _ _ _ a5.0 (anything c.application);
+        manufacturer = field_from _ _ _ a5.1 widths.manufacturer;
+        model = field_from _ _ _ a4.1 widths.model;
+        commands = field_from _ _ _ a3.1 (anything c.commands);
+        clusters = field_from _ _ _ a2.1 (clusters_fit c.clusters a1.1);
       };
     }
 
 pub fields_tested : (c : Commissioning) → HasFields c → (fields_agree c ≡ true) × HasCommissioningWidths c
 fields_tested c has =
-    let extended = agree_same _ _ has.extended.there_is in
+    let extended = field_agrees _ _ _ has.extended in
     let free = ap is_none has.free in
-    let key = agree_same _ _ has.keying.key.there_is in
-    let mic = agree_same _ _ has.keying.mic.there_is in
-    let counter = agree_same _ _ has.keying.counter.there_is in
-    let information = agree_same _ _ has.application.information.there_is in
-    let manufacturer = agree_same _ _ has.application.manufacturer.there_is in
-    let model = agree_same _ _ has.application.model.there_is in
-    let commands = agree_same _ _ has.application.commands.there_is in
-    let clusters = agree_same _ _ has.application.clusters.there_is in
+    let key = field_agrees _ _ _ has.keying.key in
+    let mic = field_agrees _ _ _ has.keying.mic in
+    let counter = field_agrees _ _ _ has.keying.counter in
+    let information = field_agrees _ _ _ has.application.information in
+    let manufacturer = field_agrees _ _ _ has.application.manufacturer in
+    let model = field_agrees _ _ _ has.application.model in
+    let commands = field_agrees _ _ _ has.application.commands in
+    let clusters = field_agrees _ _ _ has.application.clusters in
     let security : security_agrees c ≡ true = and_from _ _ (and_from _ _ (and_from _ _ (and_from _ _ extended free) key) mic) counter in
     let application : application_agrees c ≡ true =
     and_from _ _ (and_from _ _ (and_from _ _ (and_from _ _ (and_from _ _ information manufacturer) model) commands) clusters) (clusters_tested c.clusters has.application.clusters.fit) in (

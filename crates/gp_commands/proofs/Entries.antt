@@ -12,7 +12,8 @@ use Rattle.gp_base.specs.Field.{part, octet_at}
 use Rattle.gp_base.specs.Table.{answer, or_else}
 use Rattle.gp_commands.specs.Values.{value_size}
 use Rattle.gp_commands.specs.Report.{Entry, entry, IsEntry, AreRecords, value_size_at, entry_reason, entries_reason, next_place}
-use Rattle.gp_commands.proofs.Answers.{answer_ok, answer_err, first_none, pred_of}
+use Rattle.gp_base.proofs.Tables.{first_none}
+use Rattle.gp_commands.proofs.Answers.{answer_ok, answer_err, pred_of}
 use Rattle.gp_base.proofs.Codec.{join, At, At-after, At-octet, At-first, split_octet, split_octets, length-octets_at}
 use Rattle.gp_commands.proofs.Sizes.{value_size_positive}
 

@@ -10,8 +10,8 @@ use Rattle.gp_commands.specs.declared.command.CommandReason.TheVariants.{Short, 
 use Rattle.gp_commands.specs.declared.keying.Keying.{Keying}
 use Rattle.gp_commands.specs.Keying.{reserved}
 use Rattle.gp_commands.specs.Reply.{reply_level, reply_key_kind, reply_wanted, reply, reply_fields_agree, HasReplyWidths, reply_keying_place, reply_rest_place, reply_reason, reply_at}
-use Rattle.gp_commands.proofs.Answers.{first_none, agree_is, agree_same}
-use Rattle.gp_base.proofs.Codec.{At, IsField, optional_codec, octet_codec, number16_codec, join}
+use Rattle.gp_base.proofs.Tables.{first_none}
+use Rattle.gp_base.proofs.Codec.{At, IsField, field_from, field_agrees, optional_codec, octet_codec, number16_codec, join}
 use Rattle.gp_commands.proofs.Commissioned.{none_of_test, not_reserved, free_tests}
 use Rattle.gp_commands.proofs.Keyed.{HasKeying, keying_codec}
 
@@ -30,22 +30,22 @@ reply_fields_from r e widths =
     let s3 = and_parts _ _ s2.0 in
     let s4 = and_parts _ _ s3.0 in
     record {
-      pan = record { there_is = agree_is _ _ s4.0; fit = widths.pan };
+      pan = field_from _ _ _ s4.0 widths.pan;
       free = none_of_test _ s4.1;
       keying = record {
-        key = record { there_is = agree_is _ _ s3.1; fit = widths.key };
-        mic = record { there_is = agree_is _ _ s2.1; fit = widths.mic };
-        counter = record { there_is = agree_is _ _ s1.1; fit = widths.counter };
+        key = field_from _ _ _ s3.1 widths.key;
+        mic = field_from _ _ _ s2.1 widths.mic;
+        counter = field_from _ _ _ s1.1 widths.counter;
       };
     }
 
 pub reply_fields_tested : (r : Reply) → HasReplyFields r → (reply_fields_agree r ≡ true) × HasReplyWidths r
 reply_fields_tested r has =
-    let pan = agree_same _ _ has.pan.there_is in
+    let pan = field_agrees _ _ _ has.pan in
     let free = ap is_none has.free in
-    let key = agree_same _ _ has.keying.key.there_is in
-    let mic = agree_same _ _ has.keying.mic.there_is in
-    let counter = agree_same _ _ has.keying.counter.there_is in (
+    let key = field_agrees _ _ _ has.keying.key in
+    let mic = field_agrees _ _ _ has.keying.mic in
+    let counter = field_agrees _ _ _ has.keying.counter in (
       and_from _ _ (and_from _ _ (and_from _ _ (and_from _ _ pan free) key) mic) counter,
       record {
         pan = has.pan.fit;

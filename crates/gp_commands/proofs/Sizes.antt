@@ -2,6 +2,7 @@
 use Rattle.std.proofs.Common.{◌≡◌, ℕ, ◌<◌, Bool, true, false, cond, ltb, List, [], ◌∷◌, Some, refl, subst, arith, inl, inr}
 use Rattle.std.specs.Prelude.{◌&&◌, ◌⊎◌}
 use Rattle.std.proofs.lemmas.Bool.{ltb-true, and_parts}
+use Rattle.std.proofs.lemmas.Option.{same_Some}
 use Rattle.gp_commands.specs.declared.value.ValueSize.{ValueSize}
 use Rattle.gp_commands.specs.declared.value.ValueSize.TheVariants.{Rising, Fixed, Counted}
 use Rattle.gp_commands.specs.declared.value.ValueLine.{ValueLine}
@@ -22,9 +23,6 @@ size_as_positive Rising lowest kind first h = omega arith
 size_as_positive (Fixed octets) lowest kind first h = ltb-true 0 octets h
 size_as_positive Counted lowest kind first h = omega arith
 
-some_is : {A : Type 0} (x y : A) → Some x ≡ Some y → x ≡ y
-some_is x y e = cc
-
 chosen : {A : Type 0} (b : Bool) (x y z : A) → cond b x y ≡ z → ((b ≡ true) × (x ≡ z)) ⊎ ((b ≡ false) × (y ≡ z))
 chosen true x y z e = inl (refl, e)
 chosen false x y z e = inr (refl, e)
@@ -34,7 +32,7 @@ size_in_positive [] kind first size h e = absurd cc
 size_in_positive (line ∷ lines) kind first size h e =
     let parts = and_parts (is_positive line.size) (are_positive lines) h in
     elim (chosen (has_kind line kind) (Some (size_by line kind first)) (size_in lines kind first) (Some size) e) [
-      | inl here ↦ subst (λ (k : ℕ). 0 < k) (some_is _ _ here.1) (size_as_positive line.size line.first kind first parts.0)
+      | inl here ↦ subst (λ (k : ℕ). 0 < k) (same_Some _ _ here.1) (size_as_positive line.size line.first kind first parts.0)
       | inr later ↦ size_in_positive lines kind first size parts.1 later.1
     ]
 

@@ -1,21 +1,20 @@
 -- What is spelled so is read: octets that are the fields of a value have no fault, and at their places that value.
-use Rattle.std.proofs.Common.{◌≡◌, ℕ, zero, suc, ◌+◌, ◌-◌, ◌/◌, ◌%◌, ◌<◌, ◌⊎◌, inl, inr, Bool, true, false, cond, not, ◌&&◌, ◌||◌, eqb, ltb, leb, List, [], ◌∷◌, ◌++◌, length, take, drop, Option, Some, None, Ok, refl, sym, ap, ◌∙◌, arith}
+use Rattle.std.proofs.Common.{◌≡◌, ℕ, ◌+◌, ◌-◌, ◌/◌, ◌%◌, ◌<◌, ◌⊎◌, inl, inr, Bool, true, false, cond, not, ◌&&◌, ◌||◌, eqb, leb, List, [], ◌∷◌, ◌++◌, length, take, drop, Option, Some, None, Ok, refl, sym, ap, ◌∙◌, arith}
 use Rattle.std.specs.Prelude.{IsTrue, IfSome, is_some}
 use Rattle.std.specs.Option.{option_map_or}
 use Rattle.std.specs.Int.{w32, to_le_bytes}
 use Rattle.std.proofs.lemmas.List.{take_all, length-drop}
 use Rattle.gp_base.specs.Field.{part, flag, has_bit, octet, octet_at, two_at, four_at, optional, size_if, value_if}
 use Rattle.gp_base.specs.declared.identity.Src.{Src}
-use Rattle.gp_base.proofs.Codec.{At, At-after, At-taken, At-octet, number16_codec, number32_codec, optional_codec}
+use Rattle.gp_base.proofs.Codec.{At, At-after, At-taken, At-octet, number16_codec, number32_codec, optional_codec, src_codec}
 use Rattle.gp_frames.specs.declared.frame.Ext.{Ext}
 use Rattle.gp_frames.specs.declared.frame.Gpdf.{Gpdf}
 use Rattle.gp_frames.specs.declared.frame.Mpdu.{Mpdu}
 use Rattle.gp_frames.specs.Frame.{level_of, is_secured, control, extension, spelling, IsFrame, Frame}
 use Rattle.gp_frames.specs.Reasons.{type_at, version_at, is_extended, application_at, level_at, has_src, has_security, src_place, counter_place, command_place, mic_size}
 use Rattle.gp_frames.specs.Reading.{ext_in, ext_at, src_at, counter_at, body_at, mic_at, frame_at, value_at, reading}
-use Rattle.gp_frames.proofs.Bits.{SaysControl, says_control, says_extension}
+use Rattle.gp_frames.proofs.Bits.{SaysControl, says_control, says_extension, flag-lt, same_test}
 use Rattle.gp_frames.proofs.Faultless.{IsFaultless, no_reason}
-use Rattle.gp_frames.proofs.Spelled.{src_codec}
 
 -- ---- the extension
 
@@ -48,15 +47,6 @@ kind_zero false = refl
 kind_one : (m : Bool) → eqb (flag m) 1 ≡ m
 kind_one true = refl
 kind_one false = refl
-
-kind_lt : (m : Bool) → flag m < 2
-kind_lt true = omega arith
-kind_lt false = omega arith
-
-same_test : (n : ℕ) → leb 2 n ≡ ltb 1 n
-same_test zero = refl
-same_test (suc zero) = refl
-same_test (suc (suc n)) = refl
 
 level_lt : (n : ℕ) → (n ≡ 0) ⊎ ((n ≡ 2) ⊎ (n ≡ 3)) → n < 4
 level_lt n (inl e) = omega arith
@@ -171,7 +161,7 @@ is_faultless v b h head behind =
       mac_first = head.first;
       mac_second = head.second;
       long = head.behind.within;
-      kind = rw behind.kind (kind_lt v.frame.maintenance);
+      kind = rw behind.kind (flag-lt v.frame.maintenance);
       version = behind.version;
       longer = λ e. let place : size_if (is_extended b) 1 ≡ 1 = rw e refl in omega (arith, behind.total, place);
       application = behind.application;

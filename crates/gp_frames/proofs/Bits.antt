@@ -1,24 +1,26 @@
 -- The two control octets: what their bits say, and that they are put together again.
-use Rattle.std.proofs.Common.{◌≡◌, ℕ, zero, suc, ◌+◌, ◌*◌, ◌/◌, ◌%◌, ◌<◌, Bool, true, false, eqb, refl, arith}
+use Rattle.std.proofs.Common.{◌≡◌, ℕ, zero, suc, ◌+◌, ◌*◌, ◌/◌, ◌%◌, ◌<◌, Bool, true, false, eqb, ltb, leb, refl, arith}
 use Rattle.gp_base.specs.Field.{flag, has_bit}
+use Rattle.gp_base.proofs.Flags.{flag_is}
 use Rattle.gp_frames.specs.declared.frame.Ext.{Ext}
 use Rattle.gp_frames.specs.Frame.{extension}
 use Rattle.gp_frames.specs.Reading.{ext_in}
 
--- ---- a bit as a flag, and a flag as a bit
+-- ---- a flag as a bit
 
-flag_is : (n : ℕ) → n < 2 → flag (eqb n 1) ≡ n
-flag_is zero h = refl
-flag_is (suc zero) h = refl
-flag_is (suc (suc n)) h = absurd (omega arith)
-
-flag-lt : (a : Bool) → flag a < 2
+pub flag-lt : (a : Bool) → flag a < 2
 flag-lt false = omega arith
 flag-lt true = omega arith
 
 bit_is : (n : ℕ) (a : Bool) → n ≡ flag a → eqb n 1 ≡ a
 bit_is n false e = rw e refl
 bit_is n true e = rw e refl
+
+-- a level is secured from 2 on, which is above 1
+pub same_test : (n : ℕ) → leb 2 n ≡ ltb 1 n
+same_test zero = refl
+same_test (suc zero) = refl
+same_test (suc (suc n)) = refl
 
 -- ---- the NWK frame control
 

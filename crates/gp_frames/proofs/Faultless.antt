@@ -1,6 +1,6 @@
 -- What holds of octets with no fault, and that octets of which it holds have none.
 use Rattle.std.proofs.Common.{◌≡◌, ℕ, ◌+◌, ◌<◌, ◌≤◌, Bool, true, false, not, ◌&&◌, eqb, List, ◌++◌, length, None, refl, arith}
-use Rattle.std.proofs.lemmas.Bool.{eqb-true, eqb-false, eq-eqb, ne_eqb, ltb-false, le-ltb, leb-false, lt-leb}
+use Rattle.std.proofs.lemmas.Bool.{not-false, eqb-true, eqb-false, eq-eqb, ne_eqb, ltb-false, le-ltb, leb-false, lt-leb}
 use Rattle.gp_base.specs.Field.{octet_at}
 use Rattle.gp_base.proofs.Tables.{first_of-append-both, first_of-none}
 use Rattle.gp_frames.specs.Reasons.{type_at, version_at, is_extended, application_at, level_at, has_security, command_place, mic_size, mac_lines, control_lines, extension_lines, field_lines, first_reason}
@@ -23,10 +23,6 @@ both_true : (x y : Bool) → not (x && y) ≡ false → (x ≡ true) × (y ≡ t
 both_true true true h = (refl, refl)
 both_true true false h = absurd cc
 both_true false y h = absurd cc
-
-true_from : (x : Bool) → not x ≡ false → x ≡ true
-true_from true h = refl
-true_from false h = absurd cc
 
 then_false : (x y : Bool) → (x && y) ≡ false → x ≡ true → y ≡ false
 then_false true y h e = h
@@ -52,9 +48,9 @@ faultless b h =
       mac_second = eqb-true _ _ mac.1;
       long = ltb-false _ _ m.1.1.1.0;
       kind = leb-false _ _ c.0;
-      version = eqb-true _ _ (true_from _ c.1.0);
+      version = eqb-true _ _ (not-false _ c.1.0);
       longer = λ h. ltb-false _ _ (then_false _ _ c.1.1.0 h);
-      application = eqb-true _ _ (true_from _ e.0);
+      application = eqb-true _ _ (not-false _ e.0);
       level = e.1.0;
       unsecured = e.1.1.0;
       enough = lt_from (ltb-false _ _ f.0) (eqb-false _ _ f.1.0);

@@ -6,19 +6,13 @@ use Rattle.std.proofs.lemmas.Bool.{eqb-false, leb-false}
 use Rattle.std.proofs.lemmas.List.{take_all, drop_all, length-drop}
 use Rattle.gp_base.specs.Field.{IsOctets, part, flag, has_bit, octet, octet_at, two_at, four_at, optional, size_if, value_if}
 use Rattle.gp_base.specs.declared.identity.Src.{Src}
-use Rattle.gp_base.proofs.Codec.{split_octet, split_octets, length-octets_at, join, IsCodec, IsField, number16_codec, number32_codec, optional_codec}
+use Rattle.gp_base.proofs.Codec.{split_octet, split_octets, length-octets_at, join, IsField, number16_codec, number32_codec, optional_codec, src_codec}
 use Rattle.gp_frames.specs.declared.frame.Ext.{Ext}
 use Rattle.gp_frames.specs.Frame.{level_of, control, extension, spelling, IsFrame, Frame}
 use Rattle.gp_frames.specs.Reasons.{type_at, is_extended, level_at, has_src, has_security, src_place, counter_place, command_place, mic_size, first_reason}
 use Rattle.gp_frames.specs.Reading.{ext_in, ext_at, src_at, counter_at, body_at, mic_at, frame_at, value_at}
-use Rattle.gp_frames.proofs.Bits.{control_again, extension_again}
+use Rattle.gp_frames.proofs.Bits.{control_again, extension_again, same_test}
 use Rattle.gp_frames.proofs.Faultless.{IsFaultless, faultless}
-
-pub src_codec : IsCodec {X = Src} (λ src. to_le_bytes w32 src.0) (λ _ _. 4) (λ b p. record { 0 = four_at b p }) (λ src. src.0 < 2 ^ 32)
-src_codec = record {
-  split = λ b p bytes h. number32_codec.split b p bytes h;
-  again = λ b p x r at fit. let k = number32_codec.again b p x.0 r at fit in (ap (λ (n : ℕ). record { 0 = n }) k.0, k.1);
-}
 
 -- ---- the fields that have a codec of their own
 
@@ -50,11 +44,6 @@ other_kind : (n : ℕ) → n < 2 → eqb n 0 ≡ not (eqb n 1)
 other_kind zero h = refl
 other_kind (suc zero) h = refl
 other_kind (suc (suc n)) h = absurd (omega arith)
-
-same_test : (n : ℕ) → leb 2 n ≡ ltb 1 n
-same_test zero = refl
-same_test (suc zero) = refl
-same_test (suc (suc n)) = refl
 
 low_level : (n : ℕ) (m : Bool) → (m && leb 2 n) ≡ false → m ≡ true → eqb n 1 ≡ false → n ≡ 0
 low_level n true none e ne =
