@@ -50,7 +50,8 @@ pub fn number16(reader: &mut Reader) -> Option<u16>
 
 /// The next four octets as a number, the least significant first.
 pub fn number32(reader: &mut Reader) -> Option<u32>
-    ensures { Takes 4 (four_at reader.old.octets reader.old.place) reader.old reader.new result }
+    ensures taken { Takes 4 (four_at reader.old.octets reader.old.place) reader.old reader.new result }
+    ensures kept { IfNone result (reader.new ≡ reader.old) }
 {
     let taken = reader.take(4)?;
     Some(u32::from_le_bytes([taken[0], taken[1], taken[2], taken[3]]))
@@ -58,7 +59,8 @@ pub fn number32(reader: &mut Reader) -> Option<u32>
 
 /// The next four octets, a MIC.
 pub fn mic(reader: &mut Reader) -> Option<[u8; 4]>
-    ensures { Takes 4 (part reader.old.octets reader.old.place 4) reader.old reader.new result }
+    ensures taken { Takes 4 (part reader.old.octets reader.old.place 4) reader.old reader.new result }
+    ensures kept { IfNone result (reader.new ≡ reader.old) }
 {
     let taken = reader.take(4)?;
     Some([taken[0], taken[1], taken[2], taken[3]])
@@ -66,7 +68,8 @@ pub fn mic(reader: &mut Reader) -> Option<[u8; 4]>
 
 /// The next sixteen octets, a key.
 pub fn key(reader: &mut Reader) -> Option<Key>
-    ensures { Takes 16 (key_at reader.old.octets reader.old.place) reader.old reader.new result }
+    ensures taken { Takes 16 (key_at reader.old.octets reader.old.place) reader.old reader.new result }
+    ensures kept { IfNone result (reader.new ≡ reader.old) }
 {
     let taken = reader.take(16)?;
     let mut octets = [0; 16];
@@ -77,7 +80,8 @@ pub fn key(reader: &mut Reader) -> Option<Key>
 /// The next `count` octets.
 pub fn octets(reader: &mut Reader, count: usize) -> Option<Octets>
     requires { length reader.old.octets ≤ 127 }
-    ensures { Takes count (part reader.old.octets reader.old.place count) reader.old reader.new result }
+    ensures taken { Takes count (part reader.old.octets reader.old.place count) reader.old reader.new result }
+    ensures kept { IfNone result (reader.new ≡ reader.old) }
 {
     let taken = reader.take(count)?;
     Octets::of(taken)
@@ -86,7 +90,8 @@ pub fn octets(reader: &mut Reader, count: usize) -> Option<Octets>
 /// An octet that is there or not.
 pub fn octet_if(reader: &mut Reader, there: bool) -> Option<Option<u8>>
     requires { IsWithin reader.old }
-    ensures { Takes (size_if there 1) (value_if there (octet_at reader.old.octets reader.old.place)) reader.old reader.new result }
+    ensures taken { Takes (size_if there 1) (value_if there (octet_at reader.old.octets reader.old.place)) reader.old reader.new result }
+    ensures kept { IfNone result (reader.new ≡ reader.old) }
 {
     if !there {
         return Some(None);
@@ -97,7 +102,8 @@ pub fn octet_if(reader: &mut Reader, there: bool) -> Option<Option<u8>>
 /// A number of two octets that is there or not.
 pub fn number16_if(reader: &mut Reader, there: bool) -> Option<Option<u16>>
     requires { IsWithin reader.old }
-    ensures { Takes (size_if there 2) (value_if there (two_at reader.old.octets reader.old.place)) reader.old reader.new result }
+    ensures taken { Takes (size_if there 2) (value_if there (two_at reader.old.octets reader.old.place)) reader.old reader.new result }
+    ensures kept { IfNone result (reader.new ≡ reader.old) }
 {
     if !there {
         return Some(None);
@@ -108,7 +114,8 @@ pub fn number16_if(reader: &mut Reader, there: bool) -> Option<Option<u16>>
 /// A number of four octets that is there or not.
 pub fn number32_if(reader: &mut Reader, there: bool) -> Option<Option<u32>>
     requires { IsWithin reader.old }
-    ensures { Takes (size_if there 4) (value_if there (four_at reader.old.octets reader.old.place)) reader.old reader.new result }
+    ensures taken { Takes (size_if there 4) (value_if there (four_at reader.old.octets reader.old.place)) reader.old reader.new result }
+    ensures kept { IfNone result (reader.new ≡ reader.old) }
 {
     if !there {
         return Some(None);
@@ -119,7 +126,8 @@ pub fn number32_if(reader: &mut Reader, there: bool) -> Option<Option<u32>>
 /// A MIC that is there or not.
 pub fn mic_if(reader: &mut Reader, there: bool) -> Option<Option<[u8; 4]>>
     requires { IsWithin reader.old }
-    ensures { Takes (size_if there 4) (value_if there (part reader.old.octets reader.old.place 4)) reader.old reader.new result }
+    ensures taken { Takes (size_if there 4) (value_if there (part reader.old.octets reader.old.place 4)) reader.old reader.new result }
+    ensures kept { IfNone result (reader.new ≡ reader.old) }
 {
     if !there {
         return Some(None);
@@ -130,7 +138,8 @@ pub fn mic_if(reader: &mut Reader, there: bool) -> Option<Option<[u8; 4]>>
 /// A key that is there or not.
 pub fn key_if(reader: &mut Reader, there: bool) -> Option<Option<Key>>
     requires { IsWithin reader.old }
-    ensures { Takes (size_if there 16) (value_if there (key_at reader.old.octets reader.old.place)) reader.old reader.new result }
+    ensures taken { Takes (size_if there 16) (value_if there (key_at reader.old.octets reader.old.place)) reader.old reader.new result }
+    ensures kept { IfNone result (reader.new ≡ reader.old) }
 {
     if !there {
         return Some(None);

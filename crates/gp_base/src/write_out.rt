@@ -1,13 +1,13 @@
 //! An output over a writer of the system.
 
-ghost use Rattle.std.specs.Prelude.{◌≡◌, ℕ, None};
+ghost use Rattle.std.specs.Prelude.{◌≡◌, ℕ};
 
 use crate::outside::{Failed, Out};
 use std::io::Write;
 
-/// An output over any writer. It tells no content: no contract says what octets reach a file, a pipe or a
-/// terminal. Its count rises by one at each error of the writer, and at each write that takes nothing of a
-/// piece that isn't empty.
+/// An output over any writer. It tells what is written where the writer does; a file, a pipe or a terminal doesn't.
+/// Its count rises by one at each error of the writer, and at each write that takes nothing of a piece that isn't
+/// empty.
 #[derive(Debug, Drop)]
 pub struct WriteOut<W: Write> {
     writer: W,
@@ -17,7 +17,8 @@ pub struct WriteOut<W: Write> {
 impl<W: Write> WriteOut<W> {
     /// An output over this writer with a count of 0.
     pub fn new(writer: W) -> WriteOut<W>
-        ensures { ⟦<WriteOut<W> as Out>⟧.faults result ≡ 0 }
+        ensures count { ⟦<WriteOut<W> as Out>⟧.faults result ≡ 0 }
+        ensures content { ⟦<WriteOut<W> as Out>⟧.written result ≡ W.contents writer }
     {
         WriteOut { writer, faults: 0 }
     }
@@ -26,7 +27,7 @@ impl<W: Write> WriteOut<W> {
 impl<W: Write> Out for WriteOut<W> {
     ghost faults = { λ o. o.faults };
 
-    ghost written = { λ _. None };
+    ghost written = { λ o. W.contents o.writer };
 
     fn write(&mut self, octets: &[u8]) -> Result<usize, Failed> {
         match self.writer.write(octets) {
