@@ -76,3 +76,6 @@ fn disk_reason_name(reason: DiskReason) -> &'static str {
         DiskReason::SlotForm { .. } => "SlotForm",
     }
 }
+
+#[cfg(test)]
+mod tests;
