@@ -16,9 +16,9 @@ gp - Zigbee Green Power, proved
   gp format                writes an empty store of pairings into the file gp.disk of the current folder
   gp --help                prints this page
 
-A capture has one frame a line: the octets of an MPDU without FCS in hexadecimal digits of either case, at most
-512 of them. Lines end with LF; a CR before it is dropped; a last line without LF counts where it isn't empty.
-There are at most 1,000,000 lines of at most 1,024 octets.
+A capture has one frame or message a line, in hexadecimal digits of either case: the octets of an MPDU without FCS, or
+'zcl ' and the octets of a message of the Green Power cluster, from its ZCL header on. Lines end with LF; a CR before it is
+dropped; a last line without LF counts where it isn't empty. There are at most 1,000,000 lines of at most 1,024 octets.
 
 A frame is listed as
   KIND seq=XX pan=XXXX dest=XXXX auto=B ext=XX src=XXXXXXXX counter=N body=HEX mic=XXXXXXXX
@@ -30,9 +30,20 @@ REASON:PLACE with Empty, Short, ValueKind, ReservedLevel or ReservedKeyKind; or 
 with the first fault from the left and its place: TooLong, Short, MacForm, FrameKind, Version, AppId, LevelOne,
 SecuredMaintenance or NoCommand.
 
+A message is listed as one of
+  notification seq= quiet= options= src= counter= command= payload= proxy= link=
+  commissioning seq= quiet= options= src= counter= command= payload= proxy= link= mic=
+  pairing seq= quiet= options= src= sink= address= group= device= counter= key= alias= radius=
+  mode seq= quiet= options= window= channel=
+  response seq= quiet= options= master= channel= src= command= payload=
+with '-' for an absent field and for an empty payload, and 'none' for an unspecified one. Counters and windows are decimal,
+quiet is 0 or 1, the rest is hexadecimal. What is no message is bad with Short, HeaderForm, CommandUnknown, AppId, Mode,
+Trailing or Long.
+
 As JSON a frame is one compact object with the keys auto, body, command, counter, dest, ext, kind, mic, pan, seq, src and
-tag, and what is no frame is {"bad":REASON,"place":N}. An absent field is null; so is a command that is refused or isn't in
-clear. Octets and fields of a fixed width are hexadecimal texts; identifiers, single octets and counters are numbers.
+tag, a message is {"zcl":TEXT} with its listing as text, and what is refused is {"bad":REASON,"place":N}. In a frame an
+absent field is null; so is a command that is refused or isn't in clear. Octets and fields of a fixed width are hexadecimal
+texts; identifiers, single octets and counters are numbers.
 
 Exit statuses, with their text on standard error after 'gp: ':
   0  all of the input was read, and all of the output written

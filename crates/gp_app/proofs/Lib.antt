@@ -1,6 +1,7 @@
 pub mod Bodies
 mod JsonMembers
 pub mod LineLemmas
+pub mod MessageTexts
 pub mod Outcomes
 pub mod Runs
 pub mod Streams

@@ -20,7 +20,11 @@ use Rattle.gp_commands.specs.Command.{reading as read_command}
 use Rattle.gp_script.specs.declared.capture.Capture.{Capture}
 use Rattle.gp_script.specs.declared.capture.Capture.TheVariants.{Frame, Message}
 use Rattle.gp_script.specs.Capture.{captured}
+use Rattle.gp_cluster.specs.declared.message.Zcl.{Zcl}
+use Rattle.gp_cluster.specs.declared.message.ClusterReason.{ClusterReason}
+use Rattle.gp_cluster.specs.Message.{reading as read_message}
 use Rattle.gp_app.specs.Listing.{reason_name, reason_place, kind_text}
+use Rattle.gp_app.specs.Messages.{message_text, cluster_reason_name, cluster_reason_place}
 
 -- octets as a text of hexadecimal digits in upper case, and a number as it is
 abbrev pub hex : List ℕ → Data
@@ -40,11 +44,13 @@ hex32 n = hex (to_be_bytes w32 n)
 abbrev pub or_null : {A : Type 0} → (A → Data) → Option A → Data
 or_null shown field = option_map_or shown field null
 
+-- what is refused, by the name of the reason and its place
+unfoldable pub bad_members : List ℕ → ℕ → Members
+bad_members name place = with_member (codes "bad") (string name) (with_member (codes "place") (decimal place) no_members)
+
 -- a refused frame
 unfoldable pub refusal_members : FrameReason → Members
-refusal_members reason =
-    with_member (codes "bad") (string (reason_name reason))
-    (with_member (codes "place") (decimal (reason_place reason)) no_members)
+refusal_members reason = bad_members (reason_name reason) (reason_place reason)
 
 -- ---- commands: the variant's name, and each of its fields under its own name
 
@@ -174,10 +180,15 @@ unfoldable pub air_members : Result Mpdu FrameReason → Members
 air_members (Ok mpdu) = frame_members mpdu
 air_members (Err reason) = refusal_members reason
 
+-- octets behind `zcl `: a message by its listing
+unfoldable pub sent_members : Result Zcl ClusterReason → Members
+sent_members (Ok zcl) = with_member (codes "zcl") (string (message_text zcl)) no_members
+sent_members (Err reason) = bad_members (cluster_reason_name reason) (cluster_reason_place reason)
+
 -- what a line of a capture holds
 abbrev pub capture_json : Capture → List ℕ
 capture_json (Frame octets) = compact_text (object (air_members (reading octets)))
-capture_json (Message octets) = []
+capture_json (Message octets) = compact_text (object (sent_members (read_message octets)))
 
 -- the JSON for a line, where it is a line of a capture
 unfoldable pub json_listing : List ℕ → Option (List ℕ)

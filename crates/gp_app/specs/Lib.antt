@@ -4,5 +4,7 @@ pub mod Formatting
 pub mod Leaves
 pub mod Json
 pub mod Listing
+pub mod Messages
 pub mod Outcome
 pub mod Stream
+pub mod Texts

@@ -1,9 +1,8 @@
 -- What is listed for a line of a capture.
 use Rattle.std.specs.Prelude.{ℕ, ◌==◌, if◌then◌else◌, Bool, true, false, List, [], ◌∷◌, ◌++◌, Option, Result, Ok, Err, codes, decimal}
-use Rattle.std.specs.Option.{option_map, option_map_or}
-use Rattle.std.specs.Int.{w16, w32, to_be_bytes}
+use Rattle.std.specs.Option.{option_map}
+use Rattle.std.specs.Int.{w16, to_be_bytes}
 use Rattle.hex.specs.Hex.{encode_upper}
-use Rattle.gp_base.specs.declared.identity.Src.{Src}
 use Rattle.gp_frames.specs.declared.frame.Ext.{Ext}
 use Rattle.gp_frames.specs.declared.frame.Gpdf.{Gpdf}
 use Rattle.gp_frames.specs.declared.frame.Mpdu.{Mpdu}
@@ -20,15 +19,9 @@ use Rattle.gp_frames.specs.Reading.{reading}
 use Rattle.gp_script.specs.declared.capture.Capture.{Capture}
 use Rattle.gp_script.specs.declared.capture.Capture.TheVariants.{Frame, Message}
 use Rattle.gp_script.specs.Capture.{captured}
-
--- a field that is there by its text, and one that is absent as `-`
-abbrev pub or_dash : {A : Type 0} → (A → List ℕ) → Option A → List ℕ
-or_dash print field = option_map_or print field (codes "-")
-
--- a flag as a digit
-abbrev pub digit : Bool → List ℕ
-digit false = codes "0"
-digit true = codes "1"
+use Rattle.gp_cluster.specs.Message.{reading as read_message}
+use Rattle.gp_app.specs.Texts.{or_dash, digit, src_text, counter_text, mic_text, bad_text}
+use Rattle.gp_app.specs.Messages.{sent_text}
 
 -- the name of a reason, and its place in the octets
 abbrev pub reason_name : FrameReason → List ℕ
@@ -55,7 +48,7 @@ reason_place (reason.NoCommand place) = place
 
 -- a refused frame
 unfoldable pub refusal_text : FrameReason → List ℕ
-refusal_text reason = codes "bad " ++ reason_name reason ++ codes " " ++ decimal (reason_place reason)
+refusal_text reason = bad_text (reason_name reason) (reason_place reason)
 
 abbrev pub kind_text : Bool → List ℕ
 kind_text false = codes "data"
@@ -68,21 +61,12 @@ mac_text mpdu = kind_text mpdu.frame.maintenance
     ++ (codes " pan=" ++ encode_upper (to_be_bytes w16 mpdu.pan))
     ++ (codes " dest=" ++ encode_upper (to_be_bytes w16 mpdu.dest))
 
--- the fields between the MAC header and the command, and the MIC
+-- the fields between the MAC header and the command
 unfoldable pub auto_text : Bool → List ℕ
 auto_text auto = codes " auto=" ++ digit auto
 
 unfoldable pub ext_text : Option Ext → List ℕ
 ext_text ext = codes " ext=" ++ or_dash (λ e. encode_upper (extension e ∷ [])) ext
-
-unfoldable pub src_text : Option Src → List ℕ
-src_text src = codes " src=" ++ or_dash (λ s. encode_upper (to_be_bytes w32 s.0)) src
-
-unfoldable pub counter_text : Option ℕ → List ℕ
-counter_text counter = codes " counter=" ++ or_dash decimal counter
-
-unfoldable pub mic_text : Option (List ℕ) → List ℕ
-mic_text mic = codes " mic=" ++ or_dash encode_upper mic
 
 unfoldable pub header_text : Gpdf → List ℕ
 header_text frame = auto_text frame.auto ++ ext_text frame.ext ++ src_text frame.src ++ counter_text frame.counter
@@ -145,7 +129,7 @@ air_text (Err reason) = refusal_text reason
 -- what a line of a capture holds
 abbrev pub capture_text : Capture → List ℕ
 capture_text (Frame octets) = air_text (reading octets)
-capture_text (Message octets) = []
+capture_text (Message octets) = sent_text (read_message octets)
 
 -- the listing of a line, where it is a line of a capture
 unfoldable pub listing : List ℕ → Option (List ℕ)

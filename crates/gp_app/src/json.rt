@@ -7,12 +7,14 @@ ghost use Rattle.serde_json.specs.View.{members_view};
 ghost use Rattle.serde_json.specs.Written.{compact_text, members_have_float};
 ghost use Rattle.gp_frames.specs.Frame.{extension};
 ghost use Rattle.gp_frames.specs.Reading.{reading};
-ghost use Rattle.gp_app.specs.Json.{hex, hex32, or_null, refusal_members, mac_members, header_members, body_members, frame_members, air_members, capture_json, json_listing};
+ghost use Rattle.gp_cluster.specs.Message.{reading as read_message};
+ghost use Rattle.gp_app.specs.Json.{hex, hex32, or_null, bad_members, refusal_members, sent_members, mac_members, header_members, body_members, frame_members, air_members, capture_json, json_listing};
 
 use crate::json::command::put_read;
 use crate::json::member::{
     put_flag, put_hex, put_mic, put_null, put_number, put_optional_number, put_text,
 };
+use crate::json::message::put_sent;
 use crate::listing::{Unlisted, kind, named, octet_of};
 use crate::text::push_text;
 use gp_base::Src;
@@ -24,6 +26,7 @@ use std::alloc::{AllocError, Global};
 mod command;
 mod commissioning;
 mod member;
+mod message;
 #[cfg(test)]
 mod tests;
 
@@ -47,7 +50,7 @@ fn push_capture(alloc: Global, text: &mut Vec<u8>, capture: &Capture) -> Result<
 {
     match capture {
         Capture::Frame(octets) => push_air(alloc, text, octets.as_slice()),
-        Capture::Message(_) => Ok(()),
+        Capture::Message(octets) => push_sent(alloc, text, octets.as_slice()),
     }
 }
 
@@ -56,6 +59,22 @@ fn push_air(alloc: Global, text: &mut Vec<u8>, octets: &[u8]) -> Result<(), Allo
 {
     let mut map = Map::new(alloc);
     put_air(alloc, &mut map, octets)?;
+    push_object(alloc, text, map)
+}
+
+fn push_sent(alloc: Global, text: &mut Vec<u8>, octets: &[u8]) -> Result<(), AllocError>
+    ensures { OnOk result (text.new.items ≡ text.old.items ++ compact_text (object (sent_members (read_message octets.now)))) }
+{
+    let mut map = Map::new(alloc);
+    put_sent(alloc, &mut map, octets)?;
+    push_object(alloc, text, map)
+}
+
+// Adds an object that has no float.
+fn push_object(alloc: Global, text: &mut Vec<u8>, map: Map<String, Value>) -> Result<(), AllocError>
+    requires { members_have_float (members_view map.entries) ≡ false }
+    ensures { OnOk result (text.new.items ≡ text.old.items ++ compact_text (object (members_view map.entries))) }
+{
     let printed = Value::Object(map).to_string(alloc)?;
     push_text(text, printed.as_str())
 }
@@ -83,6 +102,21 @@ fn put_refusal(
     ensures whole { OnOk result (members_have_float (members_view map.new.entries) ≡ false) }
 {
     let (name, place) = named(reason);
+    put_bad(alloc, map, name, place)
+}
+
+// Puts what is refused, by the name of the reason and its place.
+#[tactic(auto, unfolding(crate::specs::Json::bad_members))]
+fn put_bad(
+    alloc: Global,
+    map: &mut Map<String, Value>,
+    name: &str,
+    place: u8,
+) -> Result<(), AllocError>
+    requires { map.old.entries ≡ [] }
+    ensures members { OnOk result (members_view map.new.entries ≡ bad_members name.now place) }
+    ensures whole { OnOk result (members_have_float (members_view map.new.entries) ≡ false) }
+{
     put_number(alloc, map, "place", u64::from(place))?;
     put_text(alloc, map, "bad", name)
 }

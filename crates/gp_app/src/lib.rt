@@ -8,6 +8,7 @@ mod form;
 mod json;
 mod lines;
 mod listing;
+mod message;
 mod running;
 mod status;
 mod text;

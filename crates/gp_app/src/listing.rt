@@ -5,8 +5,10 @@ ghost use Rattle.std.specs.Option.{IsSomeAnd};
 ghost use Rattle.gp_frames.specs.Frame.{extension, level_of};
 ghost use Rattle.gp_commands.specs.Command.{reading as read_command};
 ghost use Rattle.gp_frames.specs.Reading.{reading};
-ghost use Rattle.gp_app.specs.Listing.{kind_text, refusal_text, mac_text, auto_text, ext_text, src_text, counter_text, mic_text, variant_name, command_reason_name, command_reason_place, keying_place, command_text, read_text, header_text, body_text, frame_text, air_text, capture_text, listing};
+ghost use Rattle.gp_app.specs.Listing.{kind_text, refusal_text, mac_text, auto_text, ext_text, variant_name, command_reason_name, command_reason_place, keying_place, command_text, read_text, header_text, body_text, frame_text, air_text, capture_text, listing};
+ghost use Rattle.gp_app.specs.Texts.{src_text, counter_text, mic_text, bad_text};
 
+use crate::message::push_sent;
 use crate::text::{push_field, push_hex, push_number, push_text};
 use gp_base::Src;
 use gp_commands::{CommandReason, GpdCommand, read};
@@ -54,7 +56,7 @@ fn push_capture(text: &mut Vec<u8>, capture: &Capture) -> Result<(), AllocError>
 {
     match capture {
         Capture::Frame(octets) => push_air(text, octets.as_slice()),
-        Capture::Message(_) => Ok(()),
+        Capture::Message(octets) => push_sent(text, octets.as_slice()),
     }
 }
 
@@ -73,6 +75,14 @@ fn push_refusal(text: &mut Vec<u8>, reason: FrameReason) -> Result<(), AllocErro
     ensures { OnOk result (text.new.items ≡ text.old.items ++ refusal_text reason) }
 {
     let (name, place) = named(reason);
+    push_bad(text, name, place)
+}
+
+// Adds what is refused, by the name of the reason and its place.
+#[tactic(auto, unfolding(crate::specs::Texts::bad_text))]
+pub(crate) fn push_bad(text: &mut Vec<u8>, name: &str, place: u8) -> Result<(), AllocError>
+    ensures { OnOk result (text.new.items ≡ text.old.items ++ bad_text name.now place) }
+{
     push_text(text, "bad ")?;
     push_text(text, name)?;
     push_text(text, " ")?;
@@ -168,8 +178,8 @@ pub(crate) fn octet_of(ext: Ext) -> u8
         + 128 * u8::from(ext.to_device)
 }
 
-#[tactic(auto, unfolding(crate::specs::Listing::src_text))]
-fn push_src(text: &mut Vec<u8>, src: Option<Src>) -> Result<(), AllocError>
+#[tactic(auto, unfolding(crate::specs::Texts::src_text))]
+pub(crate) fn push_src(text: &mut Vec<u8>, src: Option<Src>) -> Result<(), AllocError>
     ensures { OnOk result (text.new.items ≡ text.old.items ++ src_text src) }
 {
     match src {
@@ -178,8 +188,8 @@ fn push_src(text: &mut Vec<u8>, src: Option<Src>) -> Result<(), AllocError>
     }
 }
 
-#[tactic(auto, unfolding(crate::specs::Listing::counter_text))]
-fn push_counter(text: &mut Vec<u8>, counter: Option<u32>) -> Result<(), AllocError>
+#[tactic(auto, unfolding(crate::specs::Texts::counter_text))]
+pub(crate) fn push_counter(text: &mut Vec<u8>, counter: Option<u32>) -> Result<(), AllocError>
     ensures { OnOk result (text.new.items ≡ text.old.items ++ counter_text counter) }
 {
     match counter {
@@ -281,8 +291,8 @@ fn keying_octet(body: &[u8]) -> u8
     }
 }
 
-#[tactic(auto, unfolding(crate::specs::Listing::mic_text))]
-fn push_mic(text: &mut Vec<u8>, mic: &Option<[u8; 4]>) -> Result<(), AllocError>
+#[tactic(auto, unfolding(crate::specs::Texts::mic_text))]
+pub(crate) fn push_mic(text: &mut Vec<u8>, mic: &Option<[u8; 4]>) -> Result<(), AllocError>
     ensures { OnOk result (text.new.items ≡ text.old.items ++ mic_text mic.now) }
 {
     match mic {

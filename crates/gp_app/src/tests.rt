@@ -12,16 +12,16 @@ const LISTING: &str =
 
 // A run over an input in pieces of so many octets, with calls that are to fail.
 #[derive(Clone, Copy)]
-struct Case<'a> {
-    words: &'a [&'a str],
-    input: &'a [u8],
-    piece: usize,
-    failing_reads: &'a [u64],
-    failing_writes: &'a [u64],
+pub(crate) struct Case<'a> {
+    pub(crate) words: &'a [&'a str],
+    pub(crate) input: &'a [u8],
+    pub(crate) piece: usize,
+    pub(crate) failing_reads: &'a [u64],
+    pub(crate) failing_writes: &'a [u64],
 }
 
 // The status and the output of a run.
-fn outcome(rt: &HostRuntime, case: &Case) -> Result<(Status, Vec<u8>), Fail> {
+pub(crate) fn outcome(rt: &HostRuntime, case: &Case) -> Result<(Status, Vec<u8>), Fail> {
     let piece = case.piece.max(1);
     let mut words = Vec::new(rt.alloc());
     for word in case.words {
