@@ -1,9 +1,10 @@
 //! Lines of a capture.
 
-ghost use Rattle.std.specs.Prelude.{◌≡◌, ◌≤◌, ◌/◌, Some, None, length, if◌then◌else◌};
+ghost use Rattle.std.specs.Prelude.{◌≡◌, ◌≤◌, ◌/◌, Some, None, length, take, drop, codes, if◌then◌else◌};
 ghost use Rattle.std.specs.Result.{result_ok};
+ghost use Rattle.std.specs.Str.{bytes_eq};
 ghost use Rattle.hex.specs.Hex.{decode_of};
-ghost use Rattle.gp_script.specs.Capture.{captured, frame_of, message_of};
+ghost use Rattle.gp_script.specs.Capture.{captured};
 
 use crate::capacity::Capacity;
 
@@ -22,50 +23,36 @@ pub struct NotALine;
 
 /// Reads a line of a capture, without its line end. It has an even number of hexadecimal digits of either case:
 /// behind `zcl ` those of a message, at least two, and else those of a frame, perhaps none.
+#[inline(always)]
 pub fn read_capture(line: &[u8]) -> Result<Capture, NotALine>
     requires { length line.now ≤ 1024 }
     ensures { result_ok result ≡ captured line.now }
 {
-    match line.strip_prefix(b"zcl ") {
-        Some(digits) => read_message(digits),
-        None => read_frame(line),
-    }
-}
-
-fn read_message(digits: &[u8]) -> Result<Capture, NotALine>
-    requires { length digits.now ≤ 1024 }
-    ensures { result_ok result ≡ message_of digits.now }
-{
-    if digits.is_empty() {
-        return Err(NotALine);
-    }
-    match octets_of(digits) {
-        Some(octets) => Ok(Capture::Message(octets)),
-        None => Err(NotALine),
-    }
-}
-
-fn read_frame(digits: &[u8]) -> Result<Capture, NotALine>
-    requires { length digits.now ≤ 1024 }
-    ensures { result_ok result ≡ frame_of digits.now }
-{
-    match octets_of(digits) {
-        Some(octets) => Ok(Capture::Frame(octets)),
-        None => Err(NotALine),
-    }
-}
-
-// The octets that the digits name.
-fn octets_of(digits: &[u8]) -> Option<Capacity>
-    requires { length digits.now ≤ 1024 }
-    ensures { result ≡ result_ok (decode_of digits.now) }
-{
+    let (is_message, digits) = digits_of(line);
     let count = digits.len() / 2;
     let mut octets = [0u8; 512];
     if !decode_digits(digits, &mut octets[..count]) {
-        return None;
+        return Err(NotALine);
     }
-    Some(Capacity::of(&octets[..count]))
+    if !is_message {
+        return Ok(Capture::Frame(Capacity::of(&octets[..count])));
+    }
+    if digits.is_empty() {
+        return Err(NotALine);
+    }
+    Ok(Capture::Message(Capacity::of(&octets[..count])))
+}
+
+// Whether a line holds a message, and its digits.
+fn digits_of(line: &[u8]) -> (bool, &[u8])
+    ensures message { result.0 ≡ bytes_eq (take 4 line.now) (codes "zcl ") }
+    ensures digits { result.1.now ≡ (if result.0 then drop 4 line.now else line.now) }
+    ensures within { length result.1.now ≤ length line.now }
+{
+    match line.strip_prefix(b"zcl ") {
+        Some(digits) => (true, digits),
+        None => (false, line),
+    }
 }
 
 // Writes the octets that the digits name. It is `false` exactly where the digits name none.
