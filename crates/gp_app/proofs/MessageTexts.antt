@@ -21,7 +21,7 @@ use Rattle.gp_cluster.specs.Notified.{HasNotificationWidths, HasNoticeWidths}
 use Rattle.gp_cluster.specs.Paired.{HasPairingWidths}
 use Rattle.gp_cluster.specs.Moded.{HasProxyModeWidths}
 use Rattle.gp_app.specs.Texts.{or_dash, digit, hex8, hex16, hex32, hex64, src_text, counter_text, mic_text}
-use Rattle.gp_app.specs.Messages.{string_digits, octet_field, pair_field, inner_text, proxy_text, sink_text, key_text, window_text, notification_text, notice_text, route_text, extras_text, pairing_text, mode_text, response_text, message_name, fields_text, message_text}
+use Rattle.gp_app.specs.Messages.{string_digits, field8, field16, inner_text, proxy_text, sink_text, key_text, window_text, notification_text, notice_text, route_text, extras_text, pairing_text, mode_text, response_text, message_name, fields_text, message_text}
 
 -- every octet of the text is ASCII
 record IsPlain (text : List ℕ) : Type 0 where
@@ -92,13 +92,13 @@ string_plain None = word (codes "none") refl
 string_plain (Some []) = word (codes "-") refl
 string_plain (Some (octet ∷ octets)) = hexed (octet ∷ octets)
 
-octet_plain : (label : List ℕ) (field : Option ℕ) → are_ascii label ≡ true → IsPlain (octet_field label field)
-unfolding octet_field
-octet_plain label field h = both (word label h) (dashed hex8 field (λ n. hexed (n ∷ [])))
+field8_plain : (label : List ℕ) (field : Option ℕ) → are_ascii label ≡ true → IsPlain (field8 label field)
+unfolding field8
+field8_plain label field h = both (word label h) (dashed hex8 field (λ n. hexed (n ∷ [])))
 
-pair_plain : (label : List ℕ) (field : Option ℕ) → are_ascii label ≡ true → IsPlain (pair_field label field)
-unfolding pair_field
-pair_plain label field h = both (word label h) (dashed hex16 field (λ n. hexed (to_be_bytes w16 n)))
+field16_plain : (label : List ℕ) (field : Option ℕ) → are_ascii label ≡ true → IsPlain (field16 label field)
+unfolding field16
+field16_plain label field h = both (word label h) (dashed hex16 field (λ n. hexed (to_be_bytes w16 n)))
 
 inner_plain : (command : ℕ) (payload : Option (List ℕ)) → IsPlain (inner_text command payload)
 unfolding inner_text
@@ -145,14 +145,14 @@ notice_plain m h =
 
 route_plain : (m : Pairing) → IsPlain (route_text m)
 unfolding route_text
-route_plain m = both (both (sink_plain m.sink) (pair_plain (codes " group=") m.group refl)) (octet_plain (codes " device=") m.device refl)
+route_plain m = both (both (sink_plain m.sink) (field16_plain (codes " group=") m.group refl)) (field8_plain (codes " device=") m.device refl)
 
 extras_plain : (m : Pairing) → HasPairingWidths m → IsPlain (extras_text m)
 unfolding extras_text
 extras_plain m h =
     both (both (both
     (counter_plain m.counter h.counter)
-    (key_plain m.key)) (pair_plain (codes " alias=") m.alias refl)) (octet_plain (codes " radius=") m.radius refl)
+    (key_plain m.key)) (field16_plain (codes " alias=") m.alias refl)) (field8_plain (codes " radius=") m.radius refl)
 
 pairing_plain : (m : Pairing) → HasPairingWidths m → IsPlain (pairing_text m)
 unfolding pairing_text
@@ -166,7 +166,7 @@ unfolding mode_text
 mode_plain m h =
     both (both
     (both (word (codes " options=") refl) (hexed (m.options ∷ [])))
-    (window_plain m.window h.window)) (octet_plain (codes " channel=") m.channel refl)
+    (window_plain m.window h.window)) (field8_plain (codes " channel=") m.channel refl)
 
 response_plain : (m : Response) → IsPlain (response_text m)
 unfolding response_text

@@ -24,11 +24,11 @@ string_digits (Some []) = codes "-"
 string_digits (Some (octet ∷ octets)) = encode_upper (octet ∷ octets)
 
 -- a field of one octet that may be absent, and one of two
-unfoldable pub octet_field : List ℕ → Option ℕ → List ℕ
-octet_field label field = label ++ or_dash hex8 field
+unfoldable pub field8 : List ℕ → Option ℕ → List ℕ
+field8 label field = label ++ or_dash hex8 field
 
-unfoldable pub pair_field : List ℕ → Option ℕ → List ℕ
-pair_field label field = label ++ or_dash hex16 field
+unfoldable pub field16 : List ℕ → Option ℕ → List ℕ
+field16 label field = label ++ or_dash hex16 field
 
 -- a command and its payload
 unfoldable pub inner_text : ℕ → Option (List ℕ) → List ℕ
@@ -63,10 +63,10 @@ notice_text m =
 
 -- where the frames of a device go, and what else a Pairing tells of it
 unfoldable pub route_text : Pairing → List ℕ
-route_text m = sink_text m.sink ++ pair_field (codes " group=") m.group ++ octet_field (codes " device=") m.device
+route_text m = sink_text m.sink ++ field16 (codes " group=") m.group ++ field8 (codes " device=") m.device
 
 unfoldable pub extras_text : Pairing → List ℕ
-extras_text m = counter_text m.counter ++ key_text m.key ++ pair_field (codes " alias=") m.alias ++ octet_field (codes " radius=") m.radius
+extras_text m = counter_text m.counter ++ key_text m.key ++ field16 (codes " alias=") m.alias ++ field8 (codes " radius=") m.radius
 
 -- its options have three octets
 unfoldable pub pairing_text : Pairing → List ℕ
@@ -75,7 +75,7 @@ pairing_text m =
     ++ src_text (Some m.src) ++ route_text m ++ extras_text m
 
 unfoldable pub mode_text : ProxyMode → List ℕ
-mode_text m = (codes " options=" ++ hex8 m.options) ++ window_text m.window ++ octet_field (codes " channel=") m.channel
+mode_text m = (codes " options=" ++ hex8 m.options) ++ window_text m.window ++ field8 (codes " channel=") m.channel
 
 unfoldable pub response_text : Response → List ℕ
 response_text m =

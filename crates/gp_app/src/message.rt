@@ -2,7 +2,7 @@
 
 ghost use Rattle.std.specs.Prelude.{◌≡◌, ℕ, ◌++◌, Some, None, OnOk};
 ghost use Rattle.gp_cluster.specs.Message.{reading};
-ghost use Rattle.gp_app.specs.Messages.{string_digits, octet_field, pair_field, inner_text, proxy_text, sink_text, key_text, window_text, notification_text, notice_text, route_text, extras_text, pairing_text, mode_text, response_text, message_name, fields_text, message_text, cluster_reason_name, cluster_reason_place, sent_text};
+ghost use Rattle.gp_app.specs.Messages.{string_digits, field8, field16, inner_text, proxy_text, sink_text, key_text, window_text, notification_text, notice_text, route_text, extras_text, pairing_text, mode_text, response_text, message_name, fields_text, message_text, cluster_reason_name, cluster_reason_place, sent_text};
 
 use crate::listing::{push_bad, push_counter, push_mic, push_src};
 use crate::text::{push_field, push_hex, push_number, push_text};
@@ -119,8 +119,8 @@ fn push_route(text: &mut Vec<u8>, message: &Pairing) -> Result<(), AllocError>
     ensures { OnOk result (text.new.items ≡ text.old.items ++ route_text message.now) }
 {
     push_sink(text, message.sink)?;
-    push_pair(text, " group=", message.group)?;
-    push_octet(text, " device=", message.device)
+    push_field16(text, " group=", message.group)?;
+    push_field8(text, " device=", message.device)
 }
 
 #[tactic(auto, unfolding(crate::specs::Messages::extras_text))]
@@ -129,8 +129,8 @@ fn push_extras(text: &mut Vec<u8>, message: &Pairing) -> Result<(), AllocError>
 {
     push_counter(text, message.counter)?;
     push_key(text, &message.key)?;
-    push_pair(text, " alias=", message.alias)?;
-    push_octet(text, " radius=", message.radius)
+    push_field16(text, " alias=", message.alias)?;
+    push_field8(text, " radius=", message.radius)
 }
 
 #[tactic(auto, unfolding(crate::specs::Messages::mode_text))]
@@ -139,7 +139,7 @@ fn push_mode(text: &mut Vec<u8>, message: &ProxyMode) -> Result<(), AllocError>
 {
     push_field(text, " options=", &[message.options])?;
     push_window(text, message.window)?;
-    push_octet(text, " channel=", message.channel)
+    push_field8(text, " channel=", message.channel)
 }
 
 #[tactic(auto, unfolding(crate::specs::Messages::response_text))]
@@ -231,9 +231,9 @@ fn push_window(text: &mut Vec<u8>, window: Option<u16>) -> Result<(), AllocError
 }
 
 // Adds a field of one octet that may be absent.
-#[tactic(auto, unfolding(crate::specs::Messages::octet_field))]
-fn push_octet(text: &mut Vec<u8>, label: &str, field: Option<u8>) -> Result<(), AllocError>
-    ensures { OnOk result (text.new.items ≡ text.old.items ++ octet_field label.now field) }
+#[tactic(auto, unfolding(crate::specs::Messages::field8))]
+fn push_field8(text: &mut Vec<u8>, label: &str, field: Option<u8>) -> Result<(), AllocError>
+    ensures { OnOk result (text.new.items ≡ text.old.items ++ field8 label.now field) }
 {
     push_text(text, label)?;
     match field {
@@ -243,9 +243,9 @@ fn push_octet(text: &mut Vec<u8>, label: &str, field: Option<u8>) -> Result<(), 
 }
 
 // The same of two octets.
-#[tactic(auto, unfolding(crate::specs::Messages::pair_field))]
-fn push_pair(text: &mut Vec<u8>, label: &str, field: Option<u16>) -> Result<(), AllocError>
-    ensures { OnOk result (text.new.items ≡ text.old.items ++ pair_field label.now field) }
+#[tactic(auto, unfolding(crate::specs::Messages::field16))]
+fn push_field16(text: &mut Vec<u8>, label: &str, field: Option<u16>) -> Result<(), AllocError>
+    ensures { OnOk result (text.new.items ≡ text.old.items ++ field16 label.now field) }
 {
     push_text(text, label)?;
     match field {

@@ -183,7 +183,7 @@ fn round_trips(rt: HostRuntime) -> Result<(), Fail> {
     Ok(())
 }
 
-// The sample capture of the examples.
+// The frames of the sample capture of the examples.
 const CAPTURE: [&str; 20] = [
     "01080AFFFFFFFF8C002143658720",
     "01080BFFFFFFFF8C402143658720",
@@ -233,7 +233,7 @@ fn lines_ended(input: &[u8], octets: usize) -> u64 {
     ended
 }
 
-// The sample capture in both forms: in pieces of one octet, and with each read and each write failing in turn.
+// These frames in both forms: in pieces of one octet, and with each read and each write failing in turn.
 #[test]
 fn sample_capture(rt: HostRuntime) -> Result<(), Fail> {
     let mut input = Vec::new(rt.alloc());
