@@ -1,19 +1,34 @@
 -- What each write of a formatting makes of an image.
 use Rattle.std.proofs.Common.{◌≡◌, ◌⊎◌, inl, inr, ⊎_elim, ℕ, zero, suc, ◌+◌, ◌-◌, ◌<◌, ◌≤◌, Bool, true, false, List, [], ◌∷◌, ◌++◌, replicate, length, get_or, take, drop, Option, Some, None, option_map, refl, sym, ◌∙◌, ap, subst, arith, slice_index, slice_get, codes}
 use Rattle.std.proofs.lemmas.Bool.{cases_lt, cases_eq}
-use Rattle.std.proofs.lemmas.List.{take-take}
+use Rattle.std.proofs.lemmas.List.{take-take, get_or-take, get_or-drop, get_or-replicate}
 use Rattle.gp_disk.specs.Disk.{part, put}
 use Rattle.gp_store.specs.Slots.{Slots, newer, newest}
 use Rattle.gp_store.specs.Image.{OPEN, IsFormatted, HoldsRow, HoldsRows, slots, format_1, gate_at}
 use Rattle.gp_store.specs.Writes.{GrowsBy, Becomes}
-use Rattle.gp_store.specs.Formatting.{SameGate, Cleared, Named, SameBehind, Opened, LeavesNoRows}
+use Rattle.gp_store.specs.Formatting.{SameGate, Cleared, Named, SameBehind, Opened, IsBlank, LeavesNoRows}
 use Rattle.gp_store.proofs.Parts.{octet-outside, part-put, length-put, Outside-put, octet-part}
 use Rattle.gp_store.proofs.Images.{slots_at_closed}
 use Rattle.gp_store.proofs.Grows.{becomes_put, became_from}
 use Rattle.gp_store.proofs.Recovered.{past}
 
-pub name_written : (octets : List ℕ) (size : ℕ) (image new : Option (List ℕ)) → length octets ≡ 63 → part 0 7 octets ≡ codes "GPSINK" ++ 1 ∷ [] → ((d : List ℕ) → image ≡ Some d → length d ≡ size) → 204800 ≤ size → new ≡ option_map (put 1 octets) image → Becomes Named image new
-name_written octets size image new sixty name fits within is = becomes_put Named (put 1 octets) image new is (λ d e. named d (fits d e))
+-- what is written stands there, octet by octet
+octet-written : (at : ℕ) (octets image : List ℕ) (i : ℕ) → at + length octets ≤ length image → at ≤ i → i < at + length octets → slice_index (put at octets image) i ≡ slice_index octets (i - at)
+octet-written at octets image i fits from to =
+    let e : at + (i - at) ≡ i = omega arith in
+    ap (λ (m : ℕ). get_or (put at octets image) m 0) (sym e)
+    ∙ sym (get_or-drop at (put at octets image) (i - at) 0)
+    ∙ sym (get_or-take (length octets) (drop at (put at octets image)) (i - at) 0 (omega arith))
+    ∙ ap (λ (l : List ℕ). get_or l (i - at) 0) (part-put at octets image fits)
+
+-- a list that ends in zeros
+ends_in_zeros : (octets : List ℕ) (i : ℕ) → drop 7 octets ≡ replicate 56 0 → 7 ≤ i → i < 63 → slice_index octets i ≡ 0
+ends_in_zeros octets i zeros from to =
+    let e : 7 + (i - 7) ≡ i = omega arith in
+    ap (λ (m : ℕ). get_or octets m 0) (sym e) ∙ sym (get_or-drop 7 octets (i - 7) 0) ∙ ap (λ (l : List ℕ). get_or l (i - 7) 0) zeros ∙ get_or-replicate 56 (i - 7) 0 0 (omega arith)
+
+pub name_written : (octets : List ℕ) (size : ℕ) (image new : Option (List ℕ)) → length octets ≡ 63 → part 0 7 octets ≡ codes "GPSINK" ++ 1 ∷ [] → drop 7 octets ≡ replicate 56 0 → ((d : List ℕ) → image ≡ Some d → length d ≡ size) → 204800 ≤ size → new ≡ option_map (put 1 octets) image → Becomes Named image new
+name_written octets size image new sixty name zeros fits within is = becomes_put Named (put 1 octets) image new is (λ d e. named d (fits d e))
   where
     named : (d : List ℕ) → length d ≡ size → Named d (put 1 octets d)
     named d long =
@@ -24,6 +39,7 @@ name_written octets size image new sixty name fits within is = becomes_put Named
           size = length-put 1 octets d f;
           name =
               sym (take-take 7 (length octets) (drop 1 (put 1 octets d)) (omega (arith, sixty))) ∙ ap (λ (l : List ℕ). take 7 l) (part-put 1 octets d f) ∙ name;
+          zeros = λ i from to. octet-written 1 octets d i f (omega (arith, from)) (omega (arith, sixty, to)) ∙ ends_in_zeros octets (i - 1) zeros (omega (arith, from)) (omega (arith, to));
           others = λ i from. octet-outside 1 (length octets) d (put 1 octets d) i o (inr (omega (arith, sixty, from)));
         }
 
@@ -72,6 +88,13 @@ behind_no_rows a b c d cleared named behind gate long =
     no_rows d gate (omega (arith, long, cleared.size, named.size, behind.size)) (behind.name ∙ named.name)
     (λ i from to. behind.others i (omega (arith, from)) ∙ named.others i from ∙ cleared.zeros i (omega (arith, from)) to)
 
+-- and all behind its first octets is zero
+pub behind_blank : (a b c d : List ℕ) → Cleared 204800 a b → Named b c → SameBehind c d → IsBlank d
+behind_blank a b c d cleared named behind i from to = elim (cases_lt i 64) [
+  | inl less ↦ behind.others i (omega (arith, from)) ∙ named.zeros i from less
+  | inr most ↦ behind.others i (omega (arith, from)) ∙ named.others i most ∙ cleared.zeros i (omega (arith, from)) to
+]
+
 -- whatever that gate is
 pub behind_either : (a b c d : List ℕ) → Cleared 204800 a b → Named b c → SameBehind c d → 204800 ≤ length a → (IsFormatted d → ⊥) ⊎ HoldsRows d []
 behind_either a b c d cleared named behind long = elim (cases_eq (slice_index d 0) OPEN) [
@@ -97,6 +120,12 @@ module _ (first second third : Option (List ℕ)) (size : ℕ) (fits : (d : List
       let c = became_from Opened third last d opened is in
       let f = chain c.0 c.1 in
       behind_no_rows f.0 f.1 c.0 d f.3 f.4 c.2.behind c.2.gate (long f.0 f.2)
+
+  pub opened_blank : (last : Option (List ℕ)) → Becomes Opened third last → (d : List ℕ) → last ≡ Some d → IsBlank d
+  opened_blank last opened d is =
+      let c = became_from Opened third last d opened is in
+      let f = chain c.0 c.1 in
+      behind_blank f.0 f.1 c.0 d f.3 f.4 c.2.behind
 
   unformatted : (a c : List ℕ) → first ≡ Some a → slice_index c 0 ≡ slice_index a 0 → IsFormatted c → ⊥
   unformatted a c is same = closed_unformatted c (λ gate. closed a is (sym same ∙ gate))

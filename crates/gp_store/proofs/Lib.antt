@@ -15,3 +15,4 @@ pub mod OneRow
 pub mod Spelling
 pub mod Grows
 pub mod Rewriting
+pub mod Counts

@@ -97,10 +97,9 @@ pub record Writes (row : ℕ) (side : Bool) (value : Row) (number : ℕ) (image 
   pub moments : LeavesRewritten row side octets image left
   pub done : is_done ≡ true → Becomes (Rewritten format_1 row side octets) image new
 
--- the device calls since the last `begin` are four to six, and no read among them
-pub record MakesCalls (tally : Tally) : Type 0 where
+-- the device calls since the last `begin` are at most six, and no read is among them
+pub record WritesAlone (tally : Tally) : Type 0 where
   pub none_read : tally.calls ≡ tally.writes
-  pub at_least : 4 ≤ tally.writes
   pub at_most : tally.writes ≤ 6
 
 -- Where the disk tells what is to fail: the commit is one `begin` and so many device calls, four to sixteen, and it

@@ -1,5 +1,5 @@
 -- What a pairing makes of the rows.
-use Rattle.std.specs.Prelude.{◌≡◌, ◌⊎◌, ℕ, zero, suc, max, List, [], ◌∷◌, length, slice_get, Some}
+use Rattle.std.specs.Prelude.{◌≡◌, ◌≤◌, ◌⊎◌, ℕ, zero, suc, max, List, [], ◌∷◌, length, slice_get, Some}
 use Rattle.gp_rows.specs.declared.row.Row.{Row}
 use Rattle.gp_rows.specs.Rows.{IsNewPair}
 
@@ -15,6 +15,10 @@ abbrev pub PairsAs : List Row → Row → ℕ → ℕ → Row → Type 0
 PairsAs rows row its_order at value =
     ((before : Row) × IsPairOf rows row at before × (value ≡ record row { order = its_order; floor = max before.floor row.floor }))
     ⊎ (IsNewPair rows row × (at ≡ length rows) × (value ≡ record row { order = its_order }))
+
+-- no row has an order above this one
+abbrev pub AreWithin : ℕ → List Row → Type 0
+AreWithin last rows = (r : ℕ) (row : Row) → slice_get rows r ≡ Some row → row.order ≤ last
 
 -- the rows with this one at its place, or at the end
 abbrev pub with_row : List Row → ℕ → Row → List Row

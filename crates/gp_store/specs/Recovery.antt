@@ -1,9 +1,11 @@
 -- What a recovery answers.
-use Rattle.std.specs.Prelude.{◌≡◌, ◌<◌, ◌≤◌, ℕ, Bool, List, Option, Some, Result, Ok, Err}
+use Rattle.std.specs.Prelude.{◌≡◌, ◌<◌, ◌≤◌, ℕ, Bool, true, List, Option, Some, Result, Ok, Err}
+use Rattle.gp_disk.specs.Disk.{Tally}
 use Rattle.gp_store.specs.declared.fault.StoreFault.{StoreFault}
 use Rattle.gp_store.specs.declared.fault.StoreFault.TheVariants.{DiskFault, DiskShort, NotFormatted, AlreadyFormatted, SlotForm, NoMemory}
 use Rattle.gp_store.specs.Slots.{IsFirstIll}
 use Rattle.gp_store.specs.Image.{IsFormatted, slots, format_1}
+use Rattle.gp_store.specs.Commit.{RunsOnce}
 
 -- where a read's image is told, it has this property
 abbrev pub Told : Option (List ℕ) → (List ℕ → Type 0) → Type 0
@@ -36,3 +38,11 @@ OnNotBegun DiskFault P = Unit {0}
 OnNotBegun NotFormatted P = Unit {0}
 OnNotBegun (SlotForm slot) P = Unit {0}
 OnNotBegun AlreadyFormatted P = Unit {0}
+
+-- One `begin`, before which no call was made. After it one call that isn't a read, which is a `sync`, since it writes no
+-- octets and leaves nothing pending that wasn't.
+pub record WritesNothing (old new : Tally) : Type 0 where
+  pub once : RunsOnce old new
+  pub one_sync : new.writes ≡ 1
+  pub no_octets : new.octets ≡ 0
+  pub none_pending : new.pending ≡ true → old.pending ≡ true

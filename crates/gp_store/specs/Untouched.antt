@@ -1,5 +1,5 @@
 -- What calls that only read leave of a disk.
-use Rattle.std.specs.Prelude.{◌≡◌, ◌⊎◌, ◌+◌, ℕ, Bool, true, false, List, Option}
+use Rattle.std.specs.Prelude.{◌≡◌, ◌≤◌, ◌⊎◌, ◌+◌, ℕ, Bool, true, false, List, Option}
 use Rattle.gp_disk.specs.Disk.{Tally, Same}
 use Rattle.gp_disk.specs.Fuse.{Fuse, burnt, Foretold}
 
@@ -23,8 +23,9 @@ pub record IsKeptAsIs (image new_image : Option (List ℕ)) (may_leave new_may_l
 abbrev pub AllGone : ℕ → Fuse → Type 0
 AllGone count fuse = (count ≡ 0) ⊎ Foretold count fuse true
 
--- calls that only read, of which so many were made where all went well
-pub record ReadsOnly (count : ℕ) (old new : Tally) (fuse new_fuse : Fuse) (is_done : Bool) : Type 0 where
-  pub tally : OnlyReads old new
-  pub burnt_by : new_fuse ≡ burnt count fuse
-  pub foretold : Foretold count fuse is_done
+-- where the disk tells what is to fail: so many device calls at most were made, and all went through
+pub record GoesOn (most : ℕ) (old new : Fuse) : Type 0 where
+  pub count : ℕ
+  pub at_most : count ≤ most
+  pub fuse : new ≡ burnt count old
+  pub all_gone : AllGone count old

@@ -5,7 +5,7 @@ ghost use Rattle.gp_disk.specs.Disk.{IsQuiet, after_begin};
 ghost use Rattle.gp_disk.specs.Fuse.{burnt, lit, Foretold};
 ghost use Rattle.gp_store.specs.Image.{format_1};
 ghost use Rattle.gp_store.specs.Writes.{Rewritten, Becomes, after_rewrite, rewrite_calls};
-ghost use Rattle.gp_store.specs.Commit.{HasReason, OnMade, OnNotMade, OnDiskFault, halted_after, undecided_after, last_after, RunsOnce, IsWritable, LeavesRewritten, Writes};
+ghost use Rattle.gp_store.specs.Commit.{HasReason, OnMade, OnNotMade, OnDiskFault, halted_after, undecided_after, last_after, RunsOnce, WritesAlone, IsWritable, LeavesRewritten, Writes};
 
 use crate::codec::spell;
 use crate::fault::CommitFault;
@@ -48,6 +48,7 @@ fn rewrite<D: Disk>(disk: &mut D, slot: Slot, is_open: bool, octets: &[u8]) -> R
     ensures good { OnOk result (D.faults disk.new ≡ D.faults disk.old) }
     ensures failed { OnErr result (Rose (D.faults disk.old) (D.faults disk.new)) }
     ensures kept { D.faults disk.old ≤ D.faults disk.new }
+    ensures calls { WritesAlone (D.tally disk.new) }
     ensures fuse { D.fuse disk.new ≡ burnt (rewrite_calls is_open) (lit (D.fuse disk.old)) }
     ensures foretold { Foretold (rewrite_calls is_open) (lit (D.fuse disk.old)) (is_ok result) }
 {
@@ -70,6 +71,7 @@ pub fn write_row<D: Disk>(
     ensures quiet { OnOk result (IsQuiet (D.tally disk.new) (D.image disk.new) (D.may_leave disk.new)) }
     ensures run { OnMade result (RunsOnce (D.tally disk.old) (D.tally disk.new)) }
     ensures tally { OnOk result (D.tally disk.new ≡ after_rewrite stale.is_open (after_begin (D.tally disk.old))) }
+    ensures calls { OnMade result (WritesAlone (D.tally disk.new)) }
     ensures untouched { OnNotMade result (disk.new ≡ disk.old) }
     ensures good { OnOk result (D.faults disk.new ≡ D.faults disk.old) }
     ensures failed { OnDiskFault result (Rose (D.faults disk.old) (D.faults disk.new)) }

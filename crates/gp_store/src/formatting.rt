@@ -1,15 +1,15 @@
 //! A disk is formatted.
-ghost use Rattle.std.specs.Prelude.{◌≡◌, ◌≢◌, ◌↔◌, ◌+◌, ◌<◌, ◌≤◌, ℕ, Bool, true, false, List, [], Some, Ok, Err, OnOk, OnErr, IfOk, IfErr, IsTrue, is_ok};
+ghost use Rattle.std.specs.Prelude.{◌≡◌, ◌≢◌, ◌↔◌, ◌+◌, ◌<◌, ◌≤◌, ℕ, Bool, true, false, List, [], Some, Ok, Err, OnOk, OnErr, IfOk, IfErr, MatchResult, IsTrue, is_ok};
 ghost use Rattle.gp_base.specs.Outside.{Rose};
 ghost use Rattle.gp_disk.specs.Disk.{IsQuiet, SameRun};
 ghost use Rattle.gp_disk.specs.Fuse.{lit, burnt, Foretold};
-ghost use Rattle.gp_store.specs.declared.fault.StoreFault.TheVariants.{DiskFault};
+ghost use Rattle.gp_store.specs.declared.fault.StoreFault.TheVariants.{DiskFault, AlreadyFormatted};
 ghost use Rattle.gp_store.specs.Image.{IsFormatted, HoldsRows};
 ghost use Rattle.gp_store.specs.Recovery.{Told, OnBegun, OnNotBegun};
 ghost use Rattle.gp_store.specs.Commit.{RunsOnce};
-ghost use Rattle.gp_store.specs.Untouched.{OnlyReads, IsKeptAsIs};
+ghost use Rattle.gp_store.specs.Untouched.{OnlyReads, IsKeptAsIs, GoesOn};
 ghost use Rattle.gp_store.specs.Writes.{GrowsBy, Becomes, after_stable};
-ghost use Rattle.gp_store.specs.Formatting.{SameGate, Cleared, Named, SameBehind, Opened, IsBegun, RefusesFormat, LeavesNoRows};
+ghost use Rattle.gp_store.specs.Formatting.{SameGate, Cleared, Named, SameBehind, Opened, IsBegun, IsBlank, RefusesFormat, OnRefused, IsLeftAlone, LeavesNoRows};
 
 use crate::fault::StoreFault;
 use crate::layout::{OPEN, SIZE};
@@ -109,6 +109,7 @@ fn write_empty<D: Disk>(disk: &mut D) -> Result<(), Failed>
     requires closed { Told (D.image disk.old) (λ d. IsBegun d → ⊥) }
     ensures since { (c : List ℕ) → D.left disk.new c → LeavesNoRows (D.left disk.old) c }
     ensures written { OnOk result (Told (D.image disk.new) (λ d. HoldsRows d [])) }
+    ensures blank { OnOk result (Told (D.image disk.new) IsBlank) }
     ensures quiet { OnOk result (IsQuiet (D.tally disk.new) (D.image disk.new) (D.may_leave disk.new)) }
     ensures run { SameRun (D.tally disk.old) (D.tally disk.new) }
     ensures writes { OnOk result ((D.tally disk.new).writes ≡ 7) }
@@ -129,17 +130,24 @@ fn write_empty<D: Disk>(disk: &mut D) -> Result<(), Failed>
 /// that isn't formatted, or the empty image.
 pub fn format<D: Disk>(disk: &mut D) -> Result<(), StoreFault>
     ensures empty { OnOk result ((c : List ℕ) → D.may_leave disk.new c → HoldsRows c []) }
+    ensures blank { OnOk result ((c : List ℕ) → D.may_leave disk.new c → IsBlank c) }
+    ensures large { OnOk result (204800 ≤ (D.tally disk.old).size) }
     ensures refuses { IfErr result (λ fault. RefusesFormat fault (D.tally disk.old).size (D.image disk.old)) }
     ensures formats { OnOk result (Told (D.image disk.old) (λ d. IsBegun d → ⊥)) }
     ensures since { IfErr result (λ fault. OnBegun fault ((c : List ℕ) → D.left disk.new c → LeavesNoRows (D.may_leave disk.old) c)) }
     ensures since_ok { OnOk result ((c : List ℕ) → D.left disk.new c → LeavesNoRows (D.may_leave disk.old) c) }
+    ensures refused { IfErr result (λ fault. OnRefused fault (IsLeftAlone (D.tally disk.old) (D.tally disk.new) (D.may_leave disk.old) (D.left disk.new))) }
     ensures already { IfErr result (λ fault. OnBegun fault ((d : List ℕ) → D.image disk.old ≡ Some d → IsBegun d → (c : List ℕ) → D.left disk.new c → D.may_leave disk.old c)) }
     ensures untouched { IfErr result (λ fault. OnNotBegun fault (disk.new ≡ disk.old)) }
-    ensures run { OnOk result (RunsOnce (D.tally disk.old) (D.tally disk.new)) }
+    ensures run { MatchResult result
+        (λ _. RunsOnce (D.tally disk.old) (D.tally disk.new))
+        (λ fault. OnBegun fault (RunsOnce (D.tally disk.old) (D.tally disk.new))) }
     ensures writes { OnOk result ((D.tally disk.new).writes ≡ 7) }
     ensures good { result ≢ Err DiskFault → D.faults disk.new ≡ D.faults disk.old }
     ensures failed { result ≡ Err DiskFault → Rose (D.faults disk.old) (D.faults disk.new) }
     ensures fuse { OnOk result (D.fuse disk.new ≡ burnt 8 (lit (D.fuse disk.old))) }
+    ensures fuse_failed { result ≡ Err DiskFault → D.fuse disk.new ≡ burnt 8 (lit (D.fuse disk.old)) }
+    ensures fuse_refused { result ≡ Err AlreadyFormatted → GoesOn 8 (lit (D.fuse disk.old)) (D.fuse disk.new) }
     ensures gone { OnOk result (Foretold 8 (lit (D.fuse disk.old)) true) }
     ensures not_gone { result ≡ Err DiskFault → Foretold 8 (lit (D.fuse disk.old)) false }
 {

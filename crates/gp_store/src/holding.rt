@@ -1,11 +1,12 @@
 //! One row is read from the disk.
 ghost use Rattle.std.specs.Prelude.{◌≡◌, ◌+◌, ◌<◌, ◌≤◌, ℕ, true, false, List, length, Some, None, OnOk, OnErr, IfOk, IfSome, IsSome};
 ghost use Rattle.gp_base.specs.Outside.{Rose};
+ghost use Rattle.gp_disk.specs.Fuse.{burnt, Foretold};
 ghost use Rattle.gp_store.specs.Slot.{Shows};
 ghost use Rattle.gp_store.specs.Slots.{IsFormed, newer};
 ghost use Rattle.gp_store.specs.Reading.{slot_of};
 ghost use Rattle.gp_store.specs.Recovery.{Told};
-ghost use Rattle.gp_store.specs.Untouched.{OnlyReads, IsKeptAsIs};
+ghost use Rattle.gp_store.specs.Untouched.{OnlyReads, IsKeptAsIs, GoesOn};
 ghost use Rattle.gp_store.specs.Held.{HoldsSome, IsRowOf};
 
 use crate::decode::{formed, generation_of};
@@ -46,6 +47,9 @@ pub fn held<D: Disk>(disk: &mut D, at: u16) -> Result<Option<Row>, Failed>
     ensures reads { OnlyReads (D.tally disk.old) (D.tally disk.new) }
     ensures good { OnOk result (D.faults disk.new ≡ D.faults disk.old) }
     ensures failed { OnErr result (Rose (D.faults disk.old) (D.faults disk.new)) }
+    ensures fuse { OnOk result (GoesOn 2 (D.fuse disk.old) (D.fuse disk.new)) }
+    ensures fuse_failed { OnErr result (D.fuse disk.new ≡ burnt 2 (D.fuse disk.old)) }
+    ensures not_gone { OnErr result (Foretold 2 (D.fuse disk.old) false) }
 {
     if at >= ROWS {
         return Ok(None);

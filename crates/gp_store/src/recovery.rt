@@ -6,9 +6,8 @@ ghost use Rattle.gp_disk.specs.Fuse.{lit, burnt, Foretold};
 ghost use Rattle.gp_store.specs.declared.fault.StoreFault.TheVariants.{DiskFault};
 ghost use Rattle.gp_store.specs.Image.{slots, format_1, IsFormatted};
 ghost use Rattle.gp_store.specs.Reading.{FoundOf, Reads};
-ghost use Rattle.gp_store.specs.Recovery.{Told, Refuses, OnNotBegun};
-ghost use Rattle.gp_store.specs.Commit.{RunsOnce};
-ghost use Rattle.gp_store.specs.Untouched.{OnlyReads, IsKeptAsIs};
+ghost use Rattle.gp_store.specs.Recovery.{Told, Refuses, OnNotBegun, WritesNothing};
+ghost use Rattle.gp_store.specs.Untouched.{OnlyReads, IsKeptAsIs, GoesOn};
 
 use crate::fault::StoreFault;
 use crate::found::Found;
@@ -65,10 +64,8 @@ pub fn settle<D: Disk>(disk: &mut D) -> Result<(), Failed>
     ensures image { D.image disk.new ≡ D.image disk.old }
     ensures since { (c : List ℕ) → D.left disk.new c → D.may_leave disk.old c }
     ensures quiet { OnOk result (IsQuiet (D.tally disk.new) (D.image disk.new) (D.may_leave disk.new)) }
-    ensures run { RunsOnce (D.tally disk.old) (D.tally disk.new) }
     ensures settled { OnOk result ((D.tally disk.new).unsettled ≡ false) }
-    ensures writes { (D.tally disk.new).writes ≡ 1 }
-    ensures octets { (D.tally disk.new).octets ≡ 0 }
+    ensures counts { WritesNothing (D.tally disk.old) (D.tally disk.new) }
     ensures good { OnOk result (D.faults disk.new ≡ D.faults disk.old) }
     ensures failed { OnErr result (Rose (D.faults disk.old) (D.faults disk.new)) }
     ensures fuse { D.fuse disk.new ≡ burnt 1 (lit (D.fuse disk.old)) }
@@ -90,12 +87,12 @@ pub fn read_disk<D: Disk>(disk: &mut D, found: &mut Found) -> Result<(), StoreFa
     ensures image { D.image disk.new ≡ D.image disk.old }
     ensures since { (c : List ℕ) → D.left disk.new c → D.may_leave disk.old c }
     ensures quiet { OnOk result (IsQuiet (D.tally disk.new) (D.image disk.new) (D.may_leave disk.new)) }
-    ensures run { RunsOnce (D.tally disk.old) (D.tally disk.new) }
-    ensures writes { (D.tally disk.new).writes ≡ 1 }
-    ensures octets { (D.tally disk.new).octets ≡ 0 }
+    ensures counts { WritesNothing (D.tally disk.old) (D.tally disk.new) }
     ensures good { result ≢ Err DiskFault → D.faults disk.new ≡ D.faults disk.old }
     ensures failed { result ≡ Err DiskFault → Rose (D.faults disk.old) (D.faults disk.new) }
     ensures fuse { OnOk result (D.fuse disk.new ≡ burnt 2050 (lit (D.fuse disk.old))) }
+    ensures fuse_failed { result ≡ Err DiskFault → D.fuse disk.new ≡ burnt 2050 (lit (D.fuse disk.old)) }
+    ensures fuse_refused { result ≢ Err DiskFault → GoesOn 2050 (lit (D.fuse disk.old)) (D.fuse disk.new) }
     ensures gone { OnOk result (Foretold 2050 (lit (D.fuse disk.old)) true) }
     ensures not_gone { result ≡ Err DiskFault → Foretold 2050 (lit (D.fuse disk.old)) false }
 {

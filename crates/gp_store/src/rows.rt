@@ -5,7 +5,7 @@ ghost use Rattle.gp_disk.specs.Fuse.{burnt, Foretold};
 ghost use Rattle.gp_store.specs.declared.rows.RowFault.TheVariants.{Failing, Ill};
 ghost use Rattle.gp_store.specs.Image.{slots, format_1};
 ghost use Rattle.gp_store.specs.Reading.{FoundOf, Reads, EndsIll, slot_of};
-ghost use Rattle.gp_store.specs.Untouched.{OnlyReads, IsKeptAsIs, AllGone};
+ghost use Rattle.gp_store.specs.Untouched.{OnlyReads, IsKeptAsIs, AllGone, GoesOn};
 
 use crate::found::Found;
 use crate::layout::{ROWS, Slot};
@@ -86,6 +86,8 @@ pub fn read_rows<D: Disk>(disk: &mut D, found: &mut Found) -> Result<(), RowFaul
     ensures good { result ≢ Err Failing → D.faults disk.new ≡ D.faults disk.old }
     ensures failed { result ≡ Err Failing → Rose (D.faults disk.old) (D.faults disk.new) }
     ensures fuse { OnOk result (D.fuse disk.new ≡ burnt 2048 (D.fuse disk.old)) }
+    ensures fuse_failed { result ≡ Err Failing → D.fuse disk.new ≡ burnt 2048 (D.fuse disk.old) }
+    ensures fuse_ill { result ≢ Err Failing → GoesOn 2048 (D.fuse disk.old) (D.fuse disk.new) }
     ensures gone { OnOk result (Foretold 2048 (D.fuse disk.old) true) }
     ensures not_gone { result ≡ Err Failing → Foretold 2048 (D.fuse disk.old) false }
 {

@@ -4,13 +4,14 @@ ghost use Rattle.gp_base.specs.Outside.{Rose};
 ghost use Rattle.gp_disk.specs.Disk.{IsQuiet};
 ghost use Rattle.gp_disk.specs.Fuse.{lit, burnt, Foretold};
 ghost use Rattle.gp_rows.specs.Rows.{IsBelow, IsNewPair, with_floor, retired_row, raised, retired};
-ghost use Rattle.gp_store.specs.Commit.{HasReason, OnMade, OnNotMade, OnDiskFault, halted_after, undecided_after, last_after, RunsOnce, Survives, Stands, MakesCalls, Burns};
+ghost use Rattle.gp_store.specs.Commit.{HasReason, OnMade, OnNotMade, OnDiskFault, halted_after, undecided_after, last_after, RunsOnce, Survives, Stands, WritesAlone, Burns};
 ghost use Rattle.gp_store.specs.declared.fault.StoreFault.TheVariants.{DiskFault as DiskHasFailed};
 ghost use Rattle.gp_store.specs.Image.{HoldsRows, HasLast};
 ghost use Rattle.gp_store.specs.Kept.{IsTold};
 ghost use Rattle.gp_store.specs.Reading.{FoundOf};
-ghost use Rattle.gp_store.specs.Pairing.{IsPairOf, PairsAs, with_row};
-ghost use Rattle.gp_store.specs.Recovery.{Told, Refuses, OnBegun, OnNotBegun};
+ghost use Rattle.gp_store.specs.Pairing.{IsPairOf, PairsAs, AreWithin, with_row};
+ghost use Rattle.gp_store.specs.Recovery.{Told, Refuses, OnBegun, OnNotBegun, WritesNothing};
+ghost use Rattle.gp_store.specs.Untouched.{GoesOn};
 
 use crate::commit::{Marks, Stale, write_row};
 use crate::fault::{CommitFault, Refused, StoreFault};
@@ -88,13 +89,18 @@ impl<D: Disk> Store<D> {
             (λ store. (c : List ℕ) → D.left store.disk c → D.may_leave disk c)
             (λ refused. OnBegun refused.fault ((c : List ℕ) → D.left refused.disk c → D.may_leave disk c)) }
         ensures image { MatchResult result (λ store. D.image store.disk ≡ D.image disk) (λ refused. D.image refused.disk ≡ D.image disk) }
-        ensures run { IfOk result (λ store. RunsOnce (D.tally disk) (D.tally store.disk)) }
-        ensures no_write { IfOk result (λ store. ((D.tally store.disk).writes ≡ 1) × ((D.tally store.disk).octets ≡ 0)) }
+        ensures quiet { IfOk result (λ store. IsQuiet (D.tally store.disk) (D.image store.disk) (D.may_leave store.disk)) }
+        ensures large { IfOk result (λ store. 204800 ≤ (D.tally disk).size) }
+        ensures no_write { MatchResult result
+            (λ store. WritesNothing (D.tally disk) (D.tally store.disk))
+            (λ refused. OnBegun refused.fault (WritesNothing (D.tally disk) (D.tally refused.disk))) }
         ensures good { IfOk result (λ store. D.faults store.disk ≡ D.faults disk) }
         ensures cause { IfErr result (λ refused. refused.fault ≢ DiskHasFailed → D.faults refused.disk ≡ D.faults disk) }
         ensures failed { IfErr result (λ refused. refused.fault ≡ DiskHasFailed → Rose (D.faults disk) (D.faults refused.disk)) }
         ensures untouched { IfErr result (λ refused. OnNotBegun refused.fault (refused.disk ≡ disk)) }
         ensures fuse { IfOk result (λ store. D.fuse store.disk ≡ burnt 2050 (lit (D.fuse disk))) }
+        ensures fuse_failed { IfErr result (λ refused. refused.fault ≡ DiskHasFailed → D.fuse refused.disk ≡ burnt 2050 (lit (D.fuse disk))) }
+        ensures fuse_refused { IfErr result (λ refused. OnBegun refused.fault (refused.fault ≢ DiskHasFailed → GoesOn 2050 (lit (D.fuse disk)) (D.fuse refused.disk))) }
         ensures gone { IfOk result (λ store. Foretold 2050 (lit (D.fuse disk)) true) }
         ensures not_gone { IfErr result (λ refused. refused.fault ≡ DiskHasFailed → Foretold 2050 (lit (D.fuse disk)) false) }
     {
@@ -123,6 +129,7 @@ impl<D: Disk> Store<D> {
     /// The rows. While the store isn't halted, every image that a crash now may leave holds exactly these.
     pub fn rows(&self) -> &Table
         ensures rows { result.now ≡ self.now.rows }
+        ensures orders { AreWithin self.now.last self.now.rows }
         ensures stands { self.now.halted ≡ false → Stands (D.may_leave self.now.disk) self.now.rows self.now.last }
     {
         &self.table
@@ -153,6 +160,7 @@ impl<D: Disk> Store<D> {
         requires live { row.live ≡ true }
         ensures reason { HasReason result self.old.halted (IsNewPair self.old.rows row × (length self.old.rows ≡ 1024)) self.old.last }
         ensures rows { IfOk result (λ at. (value : _) × PairsAs self.old.rows row (self.old.last + 1) at value × (self.new.rows ≡ with_row self.old.rows at value)) }
+        ensures newest { AreWithin self.old.last self.old.rows }
         ensures rows_kept { OnErr result (self.new.rows ≡ self.old.rows) }
         ensures moments { OnMade result ((at : ℕ) × (value : _) × PairsAs self.old.rows row (self.old.last + 1) at value
             × Survives (D.left self.new.disk) self.old.rows (with_row self.old.rows at value) self.old.last) }
@@ -163,7 +171,8 @@ impl<D: Disk> Store<D> {
         ensures decided { OnNotMade result (self.new.undecided ≡ self.old.undecided) }
         ensures decided_ok { OnOk result (self.new.undecided ≡ self.old.undecided) }
         ensures run { OnMade result (RunsOnce (D.tally self.old.disk) (D.tally self.new.disk)) }
-        ensures calls { OnOk result (MakesCalls (D.tally self.new.disk)) }
+        ensures calls { OnMade result (WritesAlone (D.tally self.new.disk)) }
+        ensures enough { OnOk result (4 ≤ (D.tally self.new.disk).writes) }
         ensures untouched { OnNotMade result (self.new.disk ≡ self.old.disk) }
         ensures good { OnOk result (D.faults self.new.disk ≡ D.faults self.old.disk) }
         ensures failed { OnDiskFault result (Rose (D.faults self.old.disk) (D.faults self.new.disk)) }
@@ -191,7 +200,8 @@ impl<D: Disk> Store<D> {
         ensures halted { self.new.halted ≡ halted_after result self.old.halted }
         ensures undecided { (value : _) → PairsAs self.old.rows row (self.old.last + 1) at value → self.new.undecided ≡ undecided_after result self.old.undecided at value }
         ensures run { OnMade result (RunsOnce (D.tally self.old.disk) (D.tally self.new.disk)) }
-        ensures calls { OnOk result (MakesCalls (D.tally self.new.disk)) }
+        ensures calls { OnMade result (WritesAlone (D.tally self.new.disk)) }
+        ensures enough { OnOk result (4 ≤ (D.tally self.new.disk).writes) }
         ensures untouched { OnNotMade result (self.new.disk ≡ self.old.disk) }
         ensures good { OnOk result (D.faults self.new.disk ≡ D.faults self.old.disk) }
         ensures failed { OnDiskFault result (Rose (D.faults self.old.disk) (D.faults self.new.disk)) }
@@ -228,7 +238,8 @@ impl<D: Disk> Store<D> {
         ensures halted { self.new.halted ≡ halted_after result self.old.halted }
         ensures undecided { (at : ℕ) (value : _) → PairsAs self.old.rows row (self.old.last + 1) at value → self.new.undecided ≡ undecided_after result self.old.undecided at value }
         ensures run { OnMade result (RunsOnce (D.tally self.old.disk) (D.tally self.new.disk)) }
-        ensures calls { OnOk result (MakesCalls (D.tally self.new.disk)) }
+        ensures calls { OnMade result (WritesAlone (D.tally self.new.disk)) }
+        ensures enough { OnOk result (4 ≤ (D.tally self.new.disk).writes) }
         ensures untouched { OnNotMade result (self.new.disk ≡ self.old.disk) }
         ensures good { OnOk result (D.faults self.new.disk ≡ D.faults self.old.disk) }
         ensures failed { OnDiskFault result (Rose (D.faults self.old.disk) (D.faults self.new.disk)) }
@@ -271,7 +282,8 @@ impl<D: Disk> Store<D> {
         ensures halted { self.new.halted ≡ halted_after result self.old.halted }
         ensures undecided { (row : _) → slice_get self.old.rows at ≡ Some row → self.new.undecided ≡ undecided_after result self.old.undecided at (with_floor counter row) }
         ensures run { OnMade result (RunsOnce (D.tally self.old.disk) (D.tally self.new.disk)) }
-        ensures calls { OnOk result (MakesCalls (D.tally self.new.disk)) }
+        ensures calls { OnMade result (WritesAlone (D.tally self.new.disk)) }
+        ensures enough { OnOk result (4 ≤ (D.tally self.new.disk).writes) }
         ensures untouched { OnNotMade result (self.new.disk ≡ self.old.disk) }
         ensures good { OnOk result (D.faults self.new.disk ≡ D.faults self.old.disk) }
         ensures failed { OnDiskFault result (Rose (D.faults self.old.disk) (D.faults self.new.disk)) }
@@ -303,7 +315,8 @@ impl<D: Disk> Store<D> {
         ensures halted { self.new.halted ≡ halted_after result self.old.halted }
         ensures undecided { (row : _) → slice_get self.old.rows at ≡ Some row → self.new.undecided ≡ undecided_after result self.old.undecided at (retired_row counter row) }
         ensures run { OnMade result (RunsOnce (D.tally self.old.disk) (D.tally self.new.disk)) }
-        ensures calls { OnOk result (MakesCalls (D.tally self.new.disk)) }
+        ensures calls { OnMade result (WritesAlone (D.tally self.new.disk)) }
+        ensures enough { OnOk result (4 ≤ (D.tally self.new.disk).writes) }
         ensures untouched { OnNotMade result (self.new.disk ≡ self.old.disk) }
         ensures good { OnOk result (D.faults self.new.disk ≡ D.faults self.old.disk) }
         ensures failed { OnDiskFault result (Rose (D.faults self.old.disk) (D.faults self.new.disk)) }

@@ -28,6 +28,8 @@ fn close<D: Disk>(disk: &mut D, slot: Slot, is_open: bool) -> Result<(), Failed>
     ensures good { OnOk result (D.faults disk.new ≡ D.faults disk.old) }
     ensures failed { OnErr result (Rose (D.faults disk.old) (D.faults disk.new)) }
     ensures kept { D.faults disk.old ≤ D.faults disk.new }
+    ensures alone { (D.tally disk.old).calls ≡ (D.tally disk.old).writes → (D.tally disk.new).calls ≡ (D.tally disk.new).writes }
+    ensures few { (D.tally disk.new).writes ≤ (D.tally disk.old).writes + 2 }
     ensures fuse { D.fuse disk.new ≡ (if is_open then burnt 2 (D.fuse disk.old) else D.fuse disk.old) }
     ensures foretold { is_open ≡ true → Foretold 2 (D.fuse disk.old) (is_ok result) }
     ensures no_call { is_open ≡ false → is_ok result ≡ true }
@@ -57,6 +59,8 @@ fn fill<D: Disk>(disk: &mut D, slot: Slot, octets: &[u8]) -> Result<(), Failed>
     ensures good { OnOk result (D.faults disk.new ≡ D.faults disk.old) }
     ensures failed { OnErr result (Rose (D.faults disk.old) (D.faults disk.new)) }
     ensures kept { D.faults disk.old ≤ D.faults disk.new }
+    ensures alone { (D.tally disk.old).calls ≡ (D.tally disk.old).writes → (D.tally disk.new).calls ≡ (D.tally disk.new).writes }
+    ensures few { (D.tally disk.new).writes ≤ (D.tally disk.old).writes + 2 }
     ensures fuse { D.fuse disk.new ≡ burnt 2 (D.fuse disk.old) }
     ensures foretold { Foretold 2 (D.fuse disk.old) (is_ok result) }
 {
@@ -79,6 +83,8 @@ fn open<D: Disk>(disk: &mut D, slot: Slot) -> Result<(), Failed>
     ensures good { OnOk result (D.faults disk.new ≡ D.faults disk.old) }
     ensures failed { OnErr result (Rose (D.faults disk.old) (D.faults disk.new)) }
     ensures kept { D.faults disk.old ≤ D.faults disk.new }
+    ensures alone { (D.tally disk.old).calls ≡ (D.tally disk.old).writes → (D.tally disk.new).calls ≡ (D.tally disk.new).writes }
+    ensures few { (D.tally disk.new).writes ≤ (D.tally disk.old).writes + 2 }
     ensures fuse { D.fuse disk.new ≡ burnt 2 (D.fuse disk.old) }
     ensures foretold { Foretold 2 (D.fuse disk.old) (is_ok result) }
 {
@@ -109,6 +115,8 @@ pub fn write_slot<D: Disk>(
     ensures good { OnOk result (D.faults disk.new ≡ D.faults disk.old) }
     ensures failed { OnErr result (Rose (D.faults disk.old) (D.faults disk.new)) }
     ensures kept { D.faults disk.old ≤ D.faults disk.new }
+    ensures alone { (D.tally disk.old).calls ≡ (D.tally disk.old).writes → (D.tally disk.new).calls ≡ (D.tally disk.new).writes }
+    ensures few { (D.tally disk.new).writes ≤ (D.tally disk.old).writes + 6 }
     ensures fuse { D.fuse disk.new ≡ burnt (rewrite_calls is_open) (D.fuse disk.old) }
     ensures foretold { Foretold (rewrite_calls is_open) (D.fuse disk.old) (is_ok result) }
 {

@@ -6,5 +6,5 @@ use Rattle.gp_store.proofs.formatting.name.Goals as goal
 pub returns-clause-written : goal.returns-clause-written
 returns-clause-written g c =
     on_ok_weaker c.stable.result
-    (name_written _ (g.D.Disk.tally c.args.disk.now).size (g.D.Disk.image c.args.disk.now) (g.D.Disk.image c.stable.new.disk) refl refl (g.met.D.Disk.fits c.args.disk.now) c.requires.size)
+    (name_written _ (g.D.Disk.tally c.args.disk.now).size (g.D.Disk.image c.args.disk.now) (g.D.Disk.image c.stable.new.disk) refl refl refl (g.met.D.Disk.fits c.args.disk.now) c.requires.size)
     c.stable.ensures.written

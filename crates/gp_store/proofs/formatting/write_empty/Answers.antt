@@ -1,5 +1,5 @@
 use Rattle.std.proofs.lemmas.Result.{on_ok_weaker}
-use Rattle.gp_store.proofs.Formatted.{opened_no_rows, empty_since}
+use Rattle.gp_store.proofs.Formatted.{opened_no_rows, opened_blank, empty_since}
 use Rattle.gp_store.proofs.formatting.write_empty.Goals as goal
 
 pub returns-clause-since : goal.returns-clause-since
@@ -11,4 +11,10 @@ pub returns-clause-written : goal.returns-clause-written
 returns-clause-written g c =
     on_ok_weaker c.open.result
     (opened_no_rows (g.D.Disk.image c.args.disk.now) (g.D.Disk.image c.clear.new.disk) (g.D.Disk.image c.name.new.disk) (g.D.Disk.tally c.args.disk.now).size (g.met.D.Disk.fits c.args.disk.now) c.requires.size c.requires.closed
+    c.in_ok-clear.ensures.written c.in_ok-name.ensures.written (g.D.Disk.image c.open.new.disk)) c.open.ensures.written
+
+pub returns-clause-blank : goal.returns-clause-blank
+returns-clause-blank g c =
+    on_ok_weaker c.open.result
+    (opened_blank (g.D.Disk.image c.args.disk.now) (g.D.Disk.image c.clear.new.disk) (g.D.Disk.image c.name.new.disk) (g.D.Disk.tally c.args.disk.now).size (g.met.D.Disk.fits c.args.disk.now) c.requires.size c.requires.closed
     c.in_ok-clear.ensures.written c.in_ok-name.ensures.written (g.D.Disk.image c.open.new.disk)) c.open.ensures.written
