@@ -19,7 +19,7 @@ consistent_fewer old new fewer same c r s o is =
       follows = λ before e. subst IsSome (sym (same before)) (w.follows before e);
       twin = λ even odd e. w.twin even odd (fewer r false even e);
       apart = λ even odd e. w.apart even odd (fewer r false even e);
-      new_pair = λ above t other h e. w.new_pair above t other h (fewer above t other e);
+      new_pair = λ above other h e. w.new_pair above other h (sym (same above) ∙ e);
       new_order = λ above t other h e. w.new_order above t other h (fewer above t other e);
     }
 
@@ -142,7 +142,9 @@ module _ (row : ℕ) (side : Bool) (old new : Slots) (same : SameButAt row side 
         follows = λ before e. still_some greater before (f.follows before e);
         twin = λ even odd e. f.twin even (ap (λ t. old row (other_side t)) odd ∙ sym (same row false (λ at. false_is_not (at.1 ∙ odd))) ∙ e);
         apart = λ even odd e g. let less = f.greatest row false even (sym (same row false (λ at. false_is_not (at.1 ∙ odd))) ∙ e) in omega (arith, less, g);
-        new_pair = λ above t other h e. f.new_pair above t other (λ q. omega (arith, q, h)) (in_other above t other (λ q. omega (arith, q, h)) e);
+        new_pair = λ above other h e.
+            let t = newest_is_open new above other e in
+            f.new_pair above t.0 other (λ q. omega (arith, q, h)) (in_other above t.0 other (λ q. omega (arith, q, h)) t.1);
         new_order = λ above t other h e. f.new_order above t other (λ q. omega (arith, q, h)) (in_other above t other (λ q. omega (arith, q, h)) e);
       }
         where
@@ -163,10 +165,14 @@ module _ (row : ℕ) (side : Bool) (old new : Slots) (same : SameButAt row side 
         apart_well even odd (inl at) is g = let less = f.greatest r s o e in let even_is = ap generation (is_b r false even at is) in omega (arith, less, g, even_is)
         apart_well even odd (inr was) is g = w.apart even odd was g
 
-        pair_well : (above : ℕ) (t : Bool) (other : List ℕ) → above < r → IsAt row side above t ⊎ (old above t ≡ Some other) → new above t ≡ Some other → IsSamePair other o → ⊥
-        pair_well above t other h (inl at) is p =
-            f.new_pair r s o (λ q. omega (arith, q, h, at.0)) e (same_pair_sym b o (subst (λ x. IsSamePair x o) (is_b above t other at is) p))
-        pair_well above t other h (inr was) is p = w.new_pair above t other h was p
+        pair_well : (above : ℕ) (other : List ℕ) → above < r → newest new above ≡ Some other → IsSamePair other o → ⊥
+        pair_well above other h is p = elim (cases_eq above row) [
+          | inl at ↦
+              let opened_is : Some other ≡ Some b = sym is ∙ ap (λ q. newest new q) at ∙ newest_opens greater in
+              let other_is : other ≡ b = cc in
+              f.new_pair r s o (λ q. omega (arith, q, h, at)) e (same_pair_sym b o (subst (λ x. IsSamePair x o) other_is p))
+          | inr ne ↦ w.new_pair above other h (sym (newest_elsewhere above ne) ∙ is) p
+        ]
 
         order_well : (above : ℕ) (t : Bool) (other : List ℕ) → above < r → IsAt row side above t ⊎ (old above t ≡ Some other) → new above t ≡ Some other → IsSameOrder other o → ⊥
         order_well above t other h (inl at) is p =
@@ -179,7 +185,7 @@ module _ (row : ℕ) (side : Bool) (old new : Slots) (same : SameButAt row side 
           follows = λ before is. still_some greater before (w.follows before is);
           twin = λ even odd is. twin_well even odd (was_open r false even is) is;
           apart = λ even odd is. apart_well even odd (was_open r false even is) is;
-          new_pair = λ above t other h is. pair_well above t other h (was_open above t other is) is;
+          new_pair = pair_well;
           new_order = λ above t other h is. order_well above t other h (was_open above t other is) is;
         }
 

@@ -109,7 +109,7 @@ module _ (v : Slots) (at : ℕ) (rows : List Row) (stale : List Stale) (older : 
     follows = row_before j;
     twin = twin;
     apart = apart;
-    new_pair = λ above s other h e p. let k = below above s other h e in (j.new above k.row k.before k.there k.before_there (k.src_is ∙ p.same_source)).0 (k.key_is ∙ p.same_key);
+    new_pair = λ above other h e p. let t = newest_is_open v above other e in let k = below above t.0 other h t.1 in (j.new above k.row k.before k.there k.before_there (k.src_is ∙ p.same_source)).0 (k.key_is ∙ p.same_key);
     new_order = λ above s other h e p. let k = below above s other h e in
         let n = j.new above k.row k.before k.there k.before_there (k.src_is ∙ p.same_source) in
         ⊎_elim (λ is. n.1 (is ∙ p.same_order)) (λ is. n.2 (is ∙ p.same_order)) k.order_is;
@@ -160,7 +160,7 @@ module _ (v : Slots) (at : ℕ) (rows : List Row) (stale : List Stale) (older : 
           let open_at = newest_is_open v k held.0 held.1 in
           let src = sym held.2.has_source ∙ src_is in
           let st = element stale k (omega (arith, within, f.as_many)) in (
-            λ key_is. w.new_pair k open_at.0 held.0 h open_at.1 (record { same_source = src; same_key = sym held.2.has_key ∙ key_is }),
+            λ key_is. w.new_pair k held.0 h held.1 (record { same_source = src; same_key = sym held.2.has_key ∙ key_is }),
             λ order_is. w.new_order k open_at.0 held.0 h open_at.1 (record { same_source = src; same_order = sym held.2.has_order ∙ order_is }),
             λ before_is. older_clash side b w k h st.0 st.1 before was held.0 open_at.0 open_at.1 src before_is (v k st.0.odd) refl,
           )

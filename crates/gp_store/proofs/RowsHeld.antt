@@ -140,8 +140,13 @@ module _ (slots : Slots) (rows : List Row) (at : ℕ) (side : Bool) (b : List �
 
     not_elsewhere : (r : ℕ) (t : Bool) (o : List ℕ) → (r ≡ at → ⊥) → slots r t ≡ Some o → IsSamePair o b → ⊥
     not_elsewhere r t o other e p = elim (cases_lt r at) [
-      | inl h ↦ now_well.new_pair r t o h e (as_now o p)
-      | inr h ↦ let q = as_now o p in (c r t o e).new_pair at open_now.0 now.0 (omega (arith, h, other)) open_now.1 (record { same_source = sym q.same_source; same_key = sym q.same_key })
+      | inl h ↦
+          let n = newest_exists slots r t o e in
+          let there = newest_is_open slots r n.0 n.1 in
+          let twin = row_pair slots c r there.0 t n.0 o there.1 e in
+          let q = as_now o p in
+          now_well.new_pair r n.0 h n.1 (record { same_source = twin.same_source ∙ q.same_source; same_key = twin.same_key ∙ q.same_key })
+      | inr h ↦ let q = as_now o p in (c r t o e).new_pair at now.0 (omega (arith, h, other)) now.1 (record { same_source = sym q.same_source; same_key = sym q.same_key })
     ]
 
     no_order : (row.order ≡ was.order) ⊎ (row.order ≡ last + 1) → (r : ℕ) (t : Bool) (o : List ℕ) → (r ≡ at → ⊥) → slots r t ≡ Some o → IsSameOrder o b → ⊥

@@ -71,8 +71,8 @@ pub record IsWell (slots : Slots) (row : ℕ) (side : Bool) (octets : List ℕ) 
   -- generation
   pub twin : (even : List ℕ) → side ≡ true → slots row false ≡ Some even → IsSamePair even octets
   pub apart : (even : List ℕ) → side ≡ true → slots row false ≡ Some even → generation even ≡ generation octets → ⊥
-  -- no row of smaller number has the same SrcID and key (each of its open slots has its SrcID and key, by the rule before)
-  pub new_pair : (above : ℕ) (s : Bool) (other : List ℕ) → above < row → slots above s ≡ Some other → IsSamePair other octets → ⊥
+  -- no row of smaller number has the same SrcID and key
+  pub new_pair : (above : ℕ) (other : List ℕ) → above < row → newest slots above ≡ Some other → IsSamePair other octets → ⊥
   -- no open slot of a row of smaller number has the same SrcID and the same order
   pub new_order : (above : ℕ) (s : Bool) (other : List ℕ) → above < row → slots above s ≡ Some other → IsSameOrder other octets → ⊥
 

@@ -160,7 +160,7 @@ impl<D: Disk> Store<D> {
         requires live { row.live ≡ true }
         ensures reason { HasReason result self.old.halted (IsNewPair self.old.rows row × (length self.old.rows ≡ 1024)) self.old.last }
         ensures rows { IfOk result (λ at. (value : _) × PairsAs self.old.rows row (self.old.last + 1) at value × (self.new.rows ≡ with_row self.old.rows at value)) }
-        ensures newest { AreWithin self.old.last self.old.rows }
+        ensures orders { AreWithin self.old.last self.old.rows }
         ensures rows_kept { OnErr result (self.new.rows ≡ self.old.rows) }
         ensures moments { OnMade result ((at : ℕ) × (value : _) × PairsAs self.old.rows row (self.old.last + 1) at value
             × Survives (D.left self.new.disk) self.old.rows (with_row self.old.rows at value) self.old.last) }
