@@ -1,15 +1,15 @@
 -- A commit on images: what each moment of a slot's rewriting leaves, and what stands where it is done.
-use Rattle.std.proofs.Common.{◌≡◌, ◌⊎◌, inl, inr, ⊎_elim, ℕ, ◌+◌, ◌<◌, ◌≤◌, Bool, true, false, List, Option, Some, None, is_some, refl, sym, ◌∙◌, ap, subst, arith, slice_get, set, length, ◌++◌, ◌∷◌, []}
+use Rattle.std.proofs.Common.{◌≡◌, ◌⊎◌, inl, inr, ⊎_elim, ℕ, ◌+◌, ◌≤◌, Bool, true, false, List, Option, Some, None, is_some, refl, sym, ◌∙◌, ap, subst, arith}
 use Rattle.std.proofs.lemmas.Bool.{cases_eq}
 use Rattle.gp_rows.specs.declared.row.Row.{Row}
 use Rattle.gp_store.specs.declared.commit.Stale.{Stale}
-use Rattle.gp_store.specs.Slot.{generation, Shows, Spelled}
-use Rattle.gp_store.specs.Slots.{Slots, other_side, newer, newest, IsConsistent, IsLast}
-use Rattle.gp_store.specs.Image.{slots, format_1, HoldsRow, HoldsRows, HasLast}
+use Rattle.gp_store.specs.Slot.{generation, Spelled}
+use Rattle.gp_store.specs.Slots.{other_side, newer, newest}
+use Rattle.gp_store.specs.Image.{slots, format_1, HoldsRows, HasLast}
 use Rattle.gp_store.specs.Writes.{OnlyAt, Rewrites, Rewritten}
 use Rattle.gp_store.specs.Kept.{IsStale, IsTold}
-use Rattle.gp_store.proofs.Consistent.{Opens, newest_elsewhere, newest_closes, newest_opens, consistent_closes, consistent_opens, consistent_fewer, newest_is_open, was_open, cases_at}
-use Rattle.gp_store.proofs.RowsHeld.{HoldsAll, ChangesAt, last_within, holds_same, holds_changed}
+use Rattle.gp_store.proofs.Consistent.{Opens, newest_elsewhere, newest_closes, newest_opens, consistent_closes, consistent_opens, consistent_fewer, was_open, cases_at}
+use Rattle.gp_store.proofs.RowsHeld.{ChangesAt, last_within, holds_same, holds_changed}
 
 module _ (rows changed : List Row) (stale : List Stale) (last at : ℕ) (side : Bool) (value : Row) (b d : List ℕ)
     (told : IsTold d rows stale last) (behind : newest (slots format_1 d) at ≡ slots format_1 d at (other_side side)) (fits : Opens (slots format_1 d) at side b) (spelled : Spelled b value (last + 1)) (change : ChangesAt rows at value changed) where

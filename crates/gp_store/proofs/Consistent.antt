@@ -1,9 +1,9 @@
 -- What stays true of slots where one of them closes, or opens with newer octets.
-use Rattle.std.proofs.Common.{◌≡◌, ◌⊎◌, inl, inr, ⊎_elim, ℕ, suc, ◌+◌, ◌*◌, ◌<◌, ◌≤◌, Bool, true, false, List, replicate, Option, Some, None, IsSome, refl, sym, ◌∙◌, ap, subst, arith, nat_lt, ltb}
-use Rattle.std.proofs.lemmas.Bool.{cases_eq, cases_lt}
+use Rattle.std.proofs.Common.{◌≡◌, ◌⊎◌, inl, inr, ⊎_elim, ℕ, suc, ◌<◌, Bool, true, false, List, Option, Some, None, IsSome, refl, sym, ◌∙◌, ap, subst, arith}
+use Rattle.std.proofs.lemmas.Bool.{cases_eq}
 use Rattle.std.proofs.lemmas.Bool.Decides.{nat_tests}
-use Rattle.gp_store.specs.Slot.{generation, source, key, order}
-use Rattle.gp_store.specs.Slots.{Slots, other_side, newer, newest, IsSamePair, IsSameOrder, IsFormed, IsWell, IsConsistent, IsLast}
+use Rattle.gp_store.specs.Slot.{generation}
+use Rattle.gp_store.specs.Slots.{Slots, other_side, newer, newest, IsSamePair, IsSameOrder, IsFormed, IsWell, IsConsistent}
 use Rattle.gp_store.proofs.Images.{IsAt}
 
 -- all slots but one are the same

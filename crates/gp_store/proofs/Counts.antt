@@ -1,5 +1,5 @@
 -- The counts of calls of a stable write, whatever it answers, and calls that have all gone through.
-use Rattle.std.proofs.Common.{◌≡◌, ◌⊎◌, inl, inr, ℕ, ◌+◌, ◌-◌, ◌^◌, ◌≤◌, min, nat_le, true, Result, Ok, Err, OnOk, OnErr, refl, sym, ◌∙◌, ap, subst, arith}
+use Rattle.std.proofs.Common.{◌≡◌, ◌⊎◌, inl, inr, ℕ, ◌+◌, ◌-◌, ◌≤◌, nat_le, true, Result, Ok, Err, OnOk, OnErr, refl, ◌∙◌, ap, subst, arith}
 use Rattle.std.proofs.lemmas.Bool.Decides.{nat_tests}
 use Rattle.gp_disk.specs.Disk.{Tally, after_write, after_sync, after_failed_sync, IsCutShort}
 use Rattle.gp_disk.specs.declared.arming.Arming.TheVariants.{Unarmed, Waits, Due, Spent}

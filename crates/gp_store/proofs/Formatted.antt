@@ -1,9 +1,9 @@
 -- What each write of a formatting makes of an image.
-use Rattle.std.proofs.Common.{◌≡◌, ◌⊎◌, inl, inr, ⊎_elim, ℕ, zero, suc, ◌+◌, ◌-◌, ◌<◌, ◌≤◌, Bool, true, false, List, [], ◌∷◌, ◌++◌, replicate, length, get_or, take, drop, Option, Some, None, option_map, refl, sym, ◌∙◌, ap, subst, arith, slice_index, slice_get, codes}
+use Rattle.std.proofs.Common.{◌≡◌, ◌⊎◌, inl, inr, ⊎_elim, ℕ, ◌+◌, ◌-◌, ◌<◌, ◌≤◌, Bool, true, false, List, [], ◌∷◌, ◌++◌, replicate, length, get_or, take, drop, Option, Some, None, option_map, refl, sym, ◌∙◌, ap, subst, arith, slice_index, codes}
 use Rattle.std.proofs.lemmas.Bool.{cases_lt, cases_eq}
 use Rattle.std.proofs.lemmas.List.{take-take, get_or-take, get_or-drop, get_or-replicate}
 use Rattle.gp_disk.specs.Disk.{part, put}
-use Rattle.gp_store.specs.Slots.{Slots, newer, newest}
+use Rattle.gp_store.specs.Slots.{newer, newest}
 use Rattle.gp_store.specs.Image.{OPEN, IsFormatted, HoldsRow, HoldsRows, slots, format_1, gate_at}
 use Rattle.gp_store.specs.Writes.{GrowsBy, Becomes}
 use Rattle.gp_store.specs.Formatting.{SameGate, Cleared, Named, SameBehind, Opened, IsBlank, LeavesNoRows}

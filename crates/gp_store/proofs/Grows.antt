@@ -1,5 +1,5 @@
 -- How the images since the last `begin` grow over several writes.
-use Rattle.std.proofs.Common.{◌≡◌, ◌⊎◌, inl, inr, ⊎_elim, ℕ, List, Option, Some, None, option_map, refl, sym, ◌∙◌, ap, subst}
+use Rattle.std.proofs.Common.{◌≡◌, inl, inr, ⊎_elim, ℕ, List, Option, Some, None, option_map, refl, sym, subst}
 use Rattle.gp_disk.specs.Disk.{Outside, GrowsTorn}
 use Rattle.gp_store.specs.Writes.{GrowsBy, Becomes}
 

@@ -1,12 +1,11 @@
 -- What the slots of an image are after each kind of write, whole or torn.
-use Rattle.std.proofs.Common.{◌≡◌, ◌⊎◌, inl, inr, ⊎_elim, ℕ, zero, suc, ◌+◌, ◌-◌, ◌*◌, ◌<◌, ◌≤◌, Bool, true, false, cond, List, [], ◌∷◌, ◌++◌, length, Option, Some, None, refl, sym, ◌∙◌, ap, subst, arith, slice_index, nat_lt, ◌==◌, ◌&&◌, eqb, ltb}
+use Rattle.std.proofs.Common.{◌≡◌, ◌⊎◌, inl, inr, ⊎_elim, ℕ, ◌+◌, ◌*◌, ◌<◌, ◌≤◌, Bool, true, false, cond, List, Option, Some, None, refl, sym, ◌∙◌, ap, arith, slice_index, nat_lt, ◌==◌, ◌&&◌}
 use Rattle.std.proofs.lemmas.Bool.{cases_eq, cases_lt}
 use Rattle.std.proofs.lemmas.Bool.Decides.{nat_tests}
 use Rattle.std.proofs.Math.Nat.{mul-le-mul_left}
-use Rattle.gp_disk.specs.Disk.{part, put, Outside}
-use Rattle.gp_store.specs.Slots.{Slots, slot_number}
-use Rattle.gp_store.specs.Image.{Layout, OPEN, gate_at, slots, IsFormatted}
-use Rattle.gp_store.proofs.Parts.{part-outside, octet-outside, part-put, octet-put, Outside-put}
+use Rattle.gp_disk.specs.Disk.{part}
+use Rattle.gp_store.specs.Slots.{slot_number}
+use Rattle.gp_store.specs.Image.{Layout, OPEN, gate_at, slots}
 
 -- two slots are the same one
 abbrev pub IsAt : ℕ → Bool → ℕ → Bool → Type 0

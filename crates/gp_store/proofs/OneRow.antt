@@ -1,5 +1,5 @@
 -- One row of the rows that an image holds.
-use Rattle.std.proofs.Common.{◌≡◌, ◌⊎◌, inl, inr, ℕ, ◌<◌, ◌≤◌, Bool, true, false, List, Option, Some, None, IfSome, IsSome, refl, sym, ◌∙◌, ap, subst, arith, slice_get, nat_eq, ◌==◌, cond}
+use Rattle.std.proofs.Common.{◌≡◌, ℕ, ◌≤◌, Bool, true, false, List, Option, Some, None, IfSome, IsSome, refl, sym, ◌∙◌, ap, subst, slice_get, ◌==◌, cond}
 use Rattle.gp_base.specs.declared.identity.Level.{Level}
 use Rattle.gp_base.specs.declared.identity.Level.TheVariants.{Two, Three}
 use Rattle.gp_base.specs.declared.identity.KeyKind.{KeyKind}

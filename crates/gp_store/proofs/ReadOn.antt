@@ -6,11 +6,11 @@ use Rattle.gp_rows.specs.declared.row.Row.{Row}
 use Rattle.gp_rows.proofs.Lists.{slice_get_in_push}
 use Rattle.gp_store.specs.declared.commit.Stale.{Stale}
 use Rattle.gp_store.specs.Slot.{source, key, order, generation, Shows}
-use Rattle.gp_store.specs.Slots.{Slots, other_side, newer, newest, IsSamePair, IsSameOrder, IsFormed, IsWell}
+use Rattle.gp_store.specs.Slots.{Slots, other_side, newer, newest, IsSamePair, IsWell}
 use Rattle.gp_store.specs.Image.{HoldsRow}
-use Rattle.gp_store.specs.Reading.{IsOther, IsNewAmong, IsJudged, ReadsTo, IsFound, Finds, EndsIll}
+use Rattle.gp_store.specs.Reading.{IsNewAmong, IsJudged, ReadsTo, IsFound, Finds, EndsIll}
 use Rattle.gp_store.proofs.Consistent.{newest_is_open, newer-none, newer_odd, newer_even}
-use Rattle.gp_store.proofs.RowsHeld.{newest_exists, newer_is_none}
+use Rattle.gp_store.proofs.RowsHeld.{newest_exists}
 
 -- a row that is there has a slot with its values
 held_some : (x : Option (List ℕ)) (y : Option Row) (row : Row) → HoldsRow 0 x y → y ≡ Some row → (o : List ℕ) × (x ≡ Some o) × Shows o 0 row

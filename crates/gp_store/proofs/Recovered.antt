@@ -1,16 +1,13 @@
 -- What is known where all rows have been read, or an ill slot was met.
-use Rattle.std.proofs.Common.{◌≡◌, ◌⊎◌, inl, inr, ⊎_elim, ℕ, ◌+◌, ◌*◌, ◌<◌, ◌≤◌, Bool, true, false, cond, List, Option, Some, None, length, refl, sym, ◌∙◌, ap, subst, arith, slice_index, slice_get, nat_lt, ◌==◌, ◌&&◌}
-use Rattle.std.proofs.lemmas.Bool.{cases_eq, cases_lt}
+use Rattle.std.proofs.Common.{◌≡◌, inl, inr, ℕ, ◌<◌, ◌≤◌, Bool, true, false, List, Option, Some, None, length, refl, sym, ◌∙◌, ap, subst, arith, slice_get}
+use Rattle.std.proofs.lemmas.Bool.{cases_lt}
 use Rattle.std.proofs.lemmas.Bool.Decides.{nat_tests}
 use Rattle.std.proofs.lemmas.Option.{slice_get_past}
-use Rattle.gp_disk.specs.Disk.{Tally, IsQuiet, part}
-use Rattle.gp_rows.specs.declared.row.Row.{Row}
-use Rattle.gp_store.specs.declared.commit.Stale.{Stale}
 use Rattle.gp_store.specs.declared.found.Found.{Found}
-use Rattle.gp_store.specs.Slots.{Slots, slot_number, newer, newest, IsWell, IsFirstIll, IsLast}
-use Rattle.gp_store.specs.Image.{slots, format_1, gate_at, OPEN, IsFormatted, HoldsRow, HoldsRows, HasLast}
+use Rattle.gp_store.specs.Slots.{Slots, slot_number, newer, newest, IsWell, IsFirstIll}
+use Rattle.gp_store.specs.Image.{slots, format_1, IsFormatted, HoldsRow, HoldsRows, HasLast}
 use Rattle.gp_store.specs.Reading.{Reads, EndsIll}
-use Rattle.gp_store.specs.Kept.{IsTold, IsReady}
+use Rattle.gp_store.specs.Kept.{IsTold}
 
 -- the first ill slot
 pub first_ill : (v : Slots) (row : ℕ) (side : Bool) (number : ℕ) → EndsIll v row side → number ≡ slot_number row side → IsFirstIll v number

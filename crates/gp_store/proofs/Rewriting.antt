@@ -1,8 +1,8 @@
 -- The three steps in which a slot is rewritten.
-use Rattle.std.proofs.Common.{◌≡◌, ◌⊎◌, inl, inr, ⊎_elim, ℕ, ◌+◌, ◌*◌, ◌<◌, ◌≤◌, Bool, true, false, List, [], ◌∷◌, length, Option, Some, None, is_some, option_map, refl, sym, ◌∙◌, ap, subst, arith}
+use Rattle.std.proofs.Common.{◌≡◌, inl, inr, ⊎_elim, ℕ, ◌+◌, ◌<◌, ◌≤◌, Bool, true, false, List, [], ◌∷◌, length, Option, Some, None, is_some, option_map, refl, sym, ◌∙◌, ap, subst, arith}
 use Rattle.gp_disk.specs.Disk.{part, put, Outside, GrowsTorn}
 use Rattle.gp_store.specs.Image.{OPEN, gate_at, slots, format_1}
-use Rattle.gp_store.specs.Writes.{OnlyAt, Rewrites, Rewritten, Closes, Closed, Filled, Opens, IsOpened, GrowsBy, Becomes, TellsOpen}
+use Rattle.gp_store.specs.Writes.{Rewrites, Rewritten, Closes, Closed, Filled, Opens, IsOpened, GrowsBy, Becomes, TellsOpen}
 use Rattle.gp_store.proofs.Images.{slots_open}
 use Rattle.gp_store.proofs.Torn.{OnlyAt-trans, torn_gate, torn_behind, written_closed, written_behind, written_open}
 use Rattle.gp_store.proofs.Grows.{grows_torn, becomes_put}

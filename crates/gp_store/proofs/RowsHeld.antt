@@ -1,14 +1,13 @@
 -- The rows that slots hold, where one slot closes, or opens with a row's new values.
-use Rattle.std.proofs.Common.{◌≡◌, ◌⊎◌, inl, inr, ⊎_elim, ℕ, zero, suc, ◌+◌, ◌*◌, ◌<◌, ◌≤◌, max, Bool, true, false, cond, nat_lt, List, [], ◌∷◌, ◌++◌, replicate, length, Option, Some, None, IsSome, refl, sym, ◌∙◌, ap, subst, arith, slice_get, get_or}
+use Rattle.std.proofs.Common.{◌≡◌, ◌⊎◌, inl, inr, ⊎_elim, ℕ, suc, ◌+◌, ◌<◌, ◌≤◌, Bool, true, false, cond, nat_lt, List, length, Option, Some, None, IsSome, refl, sym, ◌∙◌, ap, subst, arith, slice_get, get_or}
 use Rattle.std.proofs.lemmas.Bool.{cases_eq, cases_lt}
 use Rattle.std.proofs.lemmas.Option.{slice_get_past, slice_get-get_or}
 use Rattle.gp_rows.specs.declared.row.Row.{Row}
 use Rattle.gp_rows.specs.Rows.{IsNewPair}
-use Rattle.gp_store.specs.Slot.{generation, source, key, kind, level, mode, live, order, rest, Shows, Spelled}
+use Rattle.gp_store.specs.Slot.{generation, source, key, Shows, Spelled}
 use Rattle.gp_store.specs.Slots.{Slots, other_side, newer, newest, IsSamePair, IsSameOrder, IsFormed, IsWell, IsConsistent, IsLast}
 use Rattle.gp_store.specs.Image.{HoldsRow}
-use Rattle.gp_store.proofs.Images.{IsAt}
-use Rattle.gp_store.proofs.Consistent.{SameButAt, Opens, newest_is_open, cases_at}
+use Rattle.gp_store.proofs.Consistent.{Opens, newest_is_open}
 
 -- each row has the values of its newest slot
 abbrev pub HoldsAll : Slots → List Row → Type 0

@@ -1,5 +1,5 @@
 -- A slot as it is read.
-use Rattle.std.proofs.Common.{◌≡◌, ℕ, ◌+◌, ◌<◌, Bool, cond, List, Option, Some, None, IfSome, refl, sym, ◌∙◌, ap, subst, arith, slice_index, ◌==◌}
+use Rattle.std.proofs.Common.{◌≡◌, ℕ, ◌+◌, ◌<◌, Bool, cond, List, Option, Some, None, IfSome, sym, ◌∙◌, ap, subst, arith, slice_index, ◌==◌}
 use Rattle.gp_disk.specs.Disk.{part}
 use Rattle.gp_store.specs.Image.{OPEN, gate_at, slots, format_1}
 use Rattle.gp_store.specs.Reading.{slot_of}

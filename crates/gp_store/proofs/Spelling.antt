@@ -1,11 +1,11 @@
 -- What is read from the octets that spell a row.
-use Rattle.std.proofs.Common.{◌≡◌, ℕ, ◌+◌, ◌<◌, ◌^◌, max, List, [], ◌∷◌, ◌++◌, replicate, length, take, drop, get_or, refl, sym, ◌∙◌, ap, subst, arith, append_assoc, slice_index, length-append}
+use Rattle.std.proofs.Common.{◌≡◌, ℕ, ◌+◌, ◌<◌, ◌^◌, max, List, [], ◌∷◌, ◌++◌, replicate, length, take, drop, get_or, sym, ◌∙◌, ap, subst, arith, append_assoc, slice_index, length-append}
 use Rattle.std.proofs.lemmas.List.{take_at, drop_at, drop-drop, get_or-drop}
 use Rattle.std.proofs.lemmas.Nat.{from_le_bytes-to_le_bytes_2, from_le_bytes-to_le_bytes_4, from_le_bytes-to_le_bytes_8}
 use Rattle.std.specs.Int.{w16, w32, w64, to_le_bytes, from_le_bytes}
 use Rattle.gp_disk.specs.Disk.{part}
 use Rattle.gp_rows.specs.declared.row.Row.{Row}
-use Rattle.gp_store.specs.Slot.{generation, source, key, kind, level, mode, group, device, live, order, floor, rest, kind_number, level_number, mode_number, live_number, Shows, Spelled}
+use Rattle.gp_store.specs.Slot.{generation, source, key, kind, level, mode, group, device, live, order, floor, rest, kind_number, level_number, mode_number, live_number, Spelled}
 
 -- the octets before the key, and those after it
 head : Row → ℕ → List ℕ

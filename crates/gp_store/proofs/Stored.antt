@@ -1,5 +1,5 @@
 -- What a store knows of its disk after one row was written.
-use Rattle.std.proofs.Common.{◌≡◌, ◌⊎◌, inl, inr, ⊎_elim, ℕ, zero, suc, ◌+◌, ◌<◌, ◌≤◌, Bool, true, false, List, [], ◌∷◌, ◌++◌, Option, Some, None, Result, Ok, Err, OnOk, is_some, refl, sym, ◌∙◌, ap, subst, arith, slice_get, set, length, min, max, ◌^◌, ◌-◌}
+use Rattle.std.proofs.Common.{◌≡◌, ◌⊎◌, inl, inr, ℕ, zero, suc, ◌+◌, ◌<◌, ◌≤◌, Bool, true, false, List, [], ◌∷◌, ◌++◌, Option, Some, None, Result, Ok, Err, OnOk, is_some, refl, sym, ◌∙◌, ap, subst, arith, slice_get, set, length, min, max, ◌^◌, ◌-◌}
 use Rattle.gp_disk.specs.Disk.{Tally, IsQuiet, Only}
 use Rattle.gp_rows.specs.declared.row.Row.{Row}
 use Rattle.gp_rows.specs.Rows.{changed}
@@ -11,16 +11,16 @@ use Rattle.gp_store.specs.declared.fault.CommitFault.TheVariants.{TableFull, Wor
 use Rattle.std.proofs.lemmas.Bool.{cases_eq}
 use Rattle.std.proofs.lemmas.List.{length-set}
 use Rattle.std.proofs.lemmas.Option.{slice_get_within}
-use Rattle.gp_rows.proofs.Lists.{slice_get_in_set, slice_get_in_push, slice_get-set_same, slice_get-set_other}
+use Rattle.gp_rows.proofs.Lists.{slice_get_in_set, slice_get-set_same, slice_get-set_other}
 use Rattle.gp_store.specs.declared.commit.Stale.{Stale}
 use Rattle.gp_store.specs.Slot.{Spelled}
-use Rattle.gp_store.specs.Slots.{other_side, newest, IsConsistent}
+use Rattle.gp_store.specs.Slots.{other_side, newest}
 use Rattle.gp_store.specs.Image.{slots, format_1, HoldsRows, HasLast}
-use Rattle.gp_store.specs.Writes.{Rewrites, Rewritten, Becomes, TellsOpen}
+use Rattle.gp_store.specs.Writes.{Rewritten, TellsOpen}
 use Rattle.gp_store.specs.Commit.{Survives, Stands, Writes, IsWritable, HasReason, OnMade, OnNotMade, OnDiskFault, undecided_after}
 use Rattle.gp_store.specs.Kept.{IsStale, IsTold, IsReady}
 use Rattle.gp_store.proofs.Consistent.{Opens}
-use Rattle.gp_store.proofs.RowsHeld.{ChangesAt, slot_of_row, opens_there, opens_at_end, closed_past}
+use Rattle.gp_store.proofs.RowsHeld.{ChangesAt, slot_of_row, opens_there}
 use Rattle.gp_store.proofs.Grows.{became_from}
 use Rattle.gp_store.proofs.Commits.{rewrites_hold, rewrites_last, rewritten_holds, rewritten_last, rewritten_stale, rewritten_others}
 

@@ -1,11 +1,10 @@
 -- One fact a kind of stable write: what an image is whose named range may hold any octets, and what it is after the write.
-use Rattle.std.proofs.Common.{◌≡◌, ◌⊎◌, inl, inr, ⊎_elim, ℕ, ◌+◌, ◌*◌, ◌<◌, ◌≤◌, Bool, true, false, List, [], ◌∷◌, length, Option, Some, None, refl, sym, ◌∙◌, ap, subst, arith, slice_index}
+use Rattle.std.proofs.Common.{◌≡◌, ◌⊎◌, inl, inr, ⊎_elim, ℕ, ◌+◌, ◌<◌, ◌≤◌, Bool, List, [], ◌∷◌, length, Some, None, refl, ◌∙◌, ap, subst, arith}
 use Rattle.gp_disk.specs.Disk.{part, put, Outside}
-use Rattle.gp_store.specs.Slots.{slot_number}
 use Rattle.gp_store.specs.Image.{Layout, OPEN, gate_at, slots}
-use Rattle.gp_store.specs.Writes.{OnlyAt, Rewrites, Closed, Rewritten}
+use Rattle.gp_store.specs.Writes.{OnlyAt, Closed, Rewritten}
 use Rattle.gp_store.proofs.Parts.{part-outside, octet-outside, part-put, octet-put, Outside-put}
-use Rattle.gp_store.proofs.Images.{IsAt, apart, slots_same, slots_open, slots_either, slots_at_open, slots_at_closed, slots_closed_same}
+use Rattle.gp_store.proofs.Images.{apart, slots_same, slots_either, slots_at_open, slots_at_closed, slots_closed_same}
 
 pub OnlyAt-same : (l : Layout) (row : ℕ) (side : Bool) (image : List ℕ) → OnlyAt l row side image image
 OnlyAt-same l row side image = record { size = refl; header = refl; others = λ r s other. refl }

@@ -1,5 +1,5 @@
 -- What a commit answers, and what it leaves on the disk at each of its moments.
-use Rattle.std.specs.Prelude.{◌≡◌, ◌<◌, ◌≤◌, ◌^◌, ◌⊎◌, ℕ, ◌+◌, ◌-◌, Bool, true, false, List, Option, Some, None, Result, Ok, Err, OnOk, is_some}
+use Rattle.std.specs.Prelude.{◌≡◌, ◌<◌, ◌≤◌, ◌^◌, ◌⊎◌, ℕ, ◌+◌, ◌-◌, Bool, true, false, List, Option, Some, Result, Ok, Err}
 use Rattle.gp_base.specs.Outside.{one_more}
 use Rattle.gp_disk.specs.Disk.{Tally, IsQuiet}
 use Rattle.gp_disk.specs.Fuse.{Fuse, lit, burnt, Foretold}

@@ -1,5 +1,5 @@
 -- One row of an image.
-use Rattle.std.specs.Prelude.{◌≡◌, ℕ, List, Option, Some, slice_get}
+use Rattle.std.specs.Prelude.{◌≡◌, ℕ, List, Option, slice_get}
 use Rattle.gp_rows.specs.declared.row.Row.{Row}
 use Rattle.gp_store.specs.Image.{HoldsRows}
 

@@ -1,5 +1,5 @@
 -- The image of a store, and the rows that it holds.
-use Rattle.std.specs.Prelude.{◌≡◌, ◌<◌, ◌≤◌, ℕ, ◌+◌, ◌*◌, Bool, nat_lt, ◌==◌, ◌&&◌, if◌then◌else◌, List, [], ◌∷◌, ◌++◌, codes, length, slice_index, slice_get, Option, Some, None}
+use Rattle.std.specs.Prelude.{◌≡◌, ◌≤◌, ℕ, ◌+◌, ◌*◌, Bool, nat_lt, ◌==◌, ◌&&◌, if◌then◌else◌, List, [], ◌∷◌, ◌++◌, codes, length, slice_index, slice_get, Option, Some, None}
 use Rattle.gp_disk.specs.Disk.{part}
 use Rattle.gp_rows.specs.declared.row.Row.{Row}
 use Rattle.gp_store.specs.Slot.{Shows}

@@ -1,5 +1,5 @@
 -- What a store keeps of its disk.
-use Rattle.std.specs.Prelude.{◌≡◌, ◌<◌, ◌≤◌, ◌^◌, ℕ, Bool, true, false, List, Option, Some, None, length, slice_get, is_some}
+use Rattle.std.specs.Prelude.{◌≡◌, ◌≤◌, ℕ, false, List, Option, Some, length, slice_get, is_some}
 use Rattle.gp_disk.specs.Disk.{Tally, IsQuiet}
 use Rattle.gp_rows.specs.declared.row.Row.{Row}
 use Rattle.gp_store.specs.declared.commit.Marks.{Marks}

@@ -1,10 +1,10 @@
 -- How far a reading of the slots has come.
-use Rattle.std.specs.Prelude.{◌≡◌, ◌<◌, ◌≤◌, ◌⊎◌, ◌+◌, ℕ, max, Bool, true, false, List, [], ◌∷◌, ◌++◌, Option, Some, None, length, slice_get, is_some, if◌then◌else◌}
+use Rattle.std.specs.Prelude.{◌≡◌, ◌<◌, ◌≤◌, ◌⊎◌, ℕ, Bool, true, false, List, Option, Some, None, length, slice_get, is_some, if◌then◌else◌}
 use Rattle.gp_rows.specs.declared.row.Row.{Row}
 use Rattle.gp_store.specs.declared.found.Found.{Found}
 use Rattle.gp_store.specs.declared.commit.Stale.{Stale}
 use Rattle.gp_store.specs.Slot.{source, key, order, generation}
-use Rattle.gp_store.specs.Slots.{Slots, other_side, newest, IsFormed, IsWell, IsIll, IsFirstIll, slot_number}
+use Rattle.gp_store.specs.Slots.{Slots, other_side, newest, IsFormed, IsWell, IsIll}
 use Rattle.gp_store.specs.Image.{HoldsRow, slots, format_1}
 
 -- a slot by whether its gate is open, and the octets behind it

@@ -1,5 +1,5 @@
 -- What calls that only read leave of a disk.
-use Rattle.std.specs.Prelude.{◌≡◌, ◌≤◌, ◌⊎◌, ◌+◌, ℕ, Bool, true, false, List, Option}
+use Rattle.std.specs.Prelude.{◌≡◌, ◌≤◌, ◌⊎◌, ℕ, true, List, Option}
 use Rattle.gp_disk.specs.Disk.{Tally, Same}
 use Rattle.gp_disk.specs.Fuse.{Fuse, burnt, Foretold}
 

@@ -1,4 +1,4 @@
-use Rattle.std.proofs.Common.{◌+◌, ◌≤◌, inl, inr, ⊎_elim, arith}
+use Rattle.std.proofs.Common.{inl, inr, ⊎_elim, arith}
 use Rattle.gp_disk.specs.Fuse.{lit}
 use Rattle.gp_store.proofs.Counts.{one_went, went_on}
 use Rattle.gp_store.proofs.formatting.format.Goals as goal

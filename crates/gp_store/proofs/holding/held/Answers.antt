@@ -1,4 +1,4 @@
-use Rattle.std.proofs.Common.{◌≡◌, arith}
+use Rattle.std.proofs.Common.{arith}
 use Rattle.gp_store.proofs.OneRow.{row_past, row_is}
 use Rattle.gp_store.proofs.holding.held.Goals as goal
 

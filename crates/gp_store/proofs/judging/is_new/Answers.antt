@@ -1,4 +1,4 @@
-use Rattle.std.proofs.Common.{sym, ◌∙◌, ap, arith, refl, ℕ, ◌<◌, Bool}
+use Rattle.std.proofs.Common.{arith, refl}
 use Rattle.std.proofs.lemmas.Option.{slice_get_within}
 use Rattle.gp_store.proofs.NewAmong.{new_more, new_here}
 use Rattle.gp_store.proofs.judging.is_new.Goals as goal

@@ -1,5 +1,4 @@
-use Rattle.std.proofs.Common.{arith, ◌≡◌, ◌≤◌, sym, subst}
-use Rattle.gp_store.specs.Reading.{ReadsTo, IsFound}
+use Rattle.std.proofs.Common.{arith}
 use Rattle.gp_store.proofs.NewAmong.{pair_of, order_of, found_more}
 use Rattle.gp_store.proofs.ReadOn.{reads_more}
 use Rattle.gp_store.proofs.reading.add.Goals as goal

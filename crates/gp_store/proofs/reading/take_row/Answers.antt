@@ -1,6 +1,5 @@
-use Rattle.std.proofs.Common.{◌≡◌, ◌+◌, ◌∙◌, ap, subst, Bool, true, false, Some, None, Option, List, ℕ}
-use Rattle.gp_store.specs.Slots.{Slots}
-use Rattle.gp_store.specs.Reading.{Reads, EndsIll, slot_of}
+use Rattle.std.proofs.Common.{◌≡◌, ◌+◌, Bool, true, false, Some, None, Option, List, ℕ}
+use Rattle.gp_store.specs.Reading.{Reads, EndsIll}
 use Rattle.gp_store.proofs.ReadOn.{reads_none, swapped}
 use Rattle.gp_store.proofs.reading.take_row.Goals as goal
 

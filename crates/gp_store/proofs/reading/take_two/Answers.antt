@@ -1,6 +1,4 @@
-use Rattle.std.proofs.Common.{◌≡◌, ◌<◌, arith, sym, ◌∙◌, ap, Bool, true, false}
-use Rattle.gp_store.specs.Slot.{source, key, order, generation}
-use Rattle.gp_store.specs.Slots.{IsSamePair}
+use Rattle.std.proofs.Common.{arith, sym, ◌∙◌}
 use Rattle.gp_store.proofs.ReadOn.{two_ill_even, two_ill_odd, not_judged_ill, other_pair_ill, same_generation_ill, odd_finds, even_finds}
 use Rattle.gp_store.proofs.reading.take_two.Goals as goal
 

@@ -1,8 +1,7 @@
-use Rattle.std.proofs.Common.{◌≡◌, ◌≤◌, ◌∙◌, inr, sym, refl, arith, Bool, true, false, ℕ, ◌*◌, ◌+◌}
+use Rattle.std.proofs.Common.{◌≡◌, ◌∙◌, inr, arith, true}
 use Rattle.gp_disk.specs.Fuse.{Fuse, lit, burnt, Foretold}
 use Rattle.gp_store.specs.Untouched.{GoesOn}
 use Rattle.gp_store.proofs.Counts.{one_went, went_on}
-use Rattle.gp_store.specs.Slots.{slot_number}
 use Rattle.gp_store.specs.Image.{slots, format_1}
 use Rattle.gp_store.proofs.Recovered.{first_ill}
 use Rattle.gp_store.proofs.recovery.read_disk.Goals as goal

@@ -1,4 +1,4 @@
-use Rattle.std.proofs.Common.{◌≡◌, sym, subst, ℕ, Bool}
+use Rattle.std.proofs.Common.{◌≡◌, subst, Bool}
 use Rattle.gp_store.specs.Image.{slots, format_1}
 use Rattle.gp_store.specs.Reading.{EndsIll}
 use Rattle.gp_store.proofs.rows.read_row.Goals as goal

@@ -1,4 +1,4 @@
-use Rattle.std.proofs.Common.{◌≡◌, ◌+◌, ◌*◌, ◌<◌, ◌≤◌, sym, ◌∙◌, subst, arith, ℕ}
+use Rattle.std.proofs.Common.{◌*◌, sym, ◌∙◌, subst, arith, ℕ}
 use Rattle.gp_store.proofs.Counts.{one_went, went_on}
 use Rattle.gp_store.specs.Image.{slots, format_1}
 use Rattle.gp_store.specs.Reading.{EndsIll}

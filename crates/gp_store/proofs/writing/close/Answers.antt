@@ -1,4 +1,4 @@
-use Rattle.std.proofs.Common.{Bool, true, subst}
+use Rattle.std.proofs.Common.{Bool, subst}
 use Rattle.std.proofs.lemmas.Result.{on_ok_weaker}
 use Rattle.gp_store.specs.Image.{format_1}
 use Rattle.gp_store.specs.Writes.{TellsOpen}

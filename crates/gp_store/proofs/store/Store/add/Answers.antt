@@ -1,9 +1,9 @@
-use Rattle.std.proofs.Common.{◌≡◌, ◌<◌, ◌≤◌, ◌+◌, ◌^◌, ◌-◌, min, false, true, refl, sym, ◌∙◌, ap, subst, inl, inr, arith, ℕ, length, length-append, slice_get, Some, List, [], ◌∷◌, ◌++◌, Err, Ok, is_ok}
+use Rattle.std.proofs.Common.{◌≡◌, ◌+◌, false, true, refl, sym, ◌∙◌, ap, subst, inr, arith, ℕ, length, length-append, List, [], ◌∷◌, ◌++◌, Err}
 use Rattle.std.proofs.lemmas.Result.{err_from_is_err_and}
 use Rattle.gp_rows.specs.declared.row.Row.{Row}
 use Rattle.gp_rows.specs.Rows.{IsNewPair}
 use Rattle.gp_store.specs.declared.commit.Stale.{Stale}
-use Rattle.gp_store.specs.Commit.{OnMade, Survives, Stands, Writes, HasReason}
+use Rattle.gp_store.specs.Commit.{Survives, Writes}
 use Rattle.gp_store.specs.Pairing.{PairsAs, with_row}
 use Rattle.gp_store.proofs.Stored.{with_row_end, orders_after, on_made_by, rows_of}
 use Rattle.gp_store.proofs.AtEnd.{end_writable, end_survives, end_stands, end_ready, change_at_end, added_value}

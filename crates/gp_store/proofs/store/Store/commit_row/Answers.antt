@@ -1,7 +1,6 @@
-use Rattle.std.proofs.Common.{◌≡◌, ◌+◌, max, refl, sym, ◌∙◌, ap, subst, inl, inr, ℕ, length, Some, List, Err, Ok}
+use Rattle.std.proofs.Common.{◌≡◌, ◌+◌, max, refl, sym, subst, inl, inr, ℕ, length, Some, List, Err}
 use Rattle.gp_rows.specs.declared.row.Row.{Row}
 use Rattle.gp_rows.specs.Rows.{IsNewPair, IsPair}
-use Rattle.gp_store.specs.Commit.{OnNotMade, OnDiskFault, HasReason}
 use Rattle.gp_store.specs.Pairing.{PairsAs}
 use Rattle.gp_store.proofs.Stored.{rows_of, undecided_says, on_disk_fault, reason_same}
 use Rattle.gp_store.proofs.store.Store.commit_row.Goals as goal

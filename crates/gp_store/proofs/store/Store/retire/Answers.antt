@@ -1,11 +1,9 @@
-use Rattle.std.proofs.Common.{◌≡◌, ◌<◌, ◌≤◌, ◌+◌, false, true, not, refl, sym, ◌∙◌, ap, subst, inl, arith, length, slice_get, Some, List, Err, Ok, is_ok, Vec}
+use Rattle.std.proofs.Common.{◌≡◌, ◌+◌, false, true, not, refl, inl, arith, length, slice_get, Some, Err}
 use Rattle.std.proofs.lemmas.Option.{slice_get_within, slice_get_read}
 use Rattle.std.proofs.lemmas.Result.{err_from_is_err_and}
 use Rattle.std.proofs.lemmas.List.{length-set}
-use Rattle.gp_rows.specs.declared.row.Row.{Row}
 use Rattle.gp_rows.specs.Rows.{retired_row, retired}
-use Rattle.gp_store.specs.declared.commit.Stale.{Stale}
-use Rattle.gp_store.specs.Commit.{OnMade, Survives, Stands, Writes, HasReason}
+use Rattle.gp_store.specs.Commit.{Survives, Writes}
 use Rattle.gp_store.proofs.Stored.{there_writable, there_survives, there_stands, there_ready, change_at_changed, length-changed, orders_after, on_made}
 use Rattle.gp_store.proofs.store.Store.retire.Goals as goal
 

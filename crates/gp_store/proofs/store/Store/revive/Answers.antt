@@ -1,9 +1,9 @@
-use Rattle.std.proofs.Common.{◌≡◌, ◌<◌, ◌≤◌, ◌+◌, ◌^◌, ◌-◌, max, min, false, true, not, refl, sym, ◌∙◌, ap, subst, inl, inr, arith, ℕ, length, set, slice_get, Some, List, Err, Ok, is_ok}
+use Rattle.std.proofs.Common.{◌≡◌, ◌+◌, false, true, not, refl, sym, ◌∙◌, ap, subst, inl, inr, arith, length, slice_get, Some, List, Err}
 use Rattle.std.proofs.lemmas.Option.{slice_get_within, slice_get_read}
 use Rattle.std.proofs.lemmas.Result.{err_from_is_err_and}
 use Rattle.std.proofs.lemmas.List.{length-set}
 use Rattle.gp_rows.specs.declared.row.Row.{Row}
-use Rattle.gp_store.specs.Commit.{OnMade, Survives, Stands, Writes, HasReason}
+use Rattle.gp_store.specs.Commit.{Survives, Writes}
 use Rattle.gp_store.specs.Pairing.{PairsAs, with_row}
 use Rattle.gp_store.proofs.RowsHeld.{ChangesAt}
 use Rattle.gp_store.proofs.Stored.{there_writable, there_survives, there_stands, there_ready, change_at_set, with_row_is, orders_after, on_made_by, revived_value, some_same, rows_of}
