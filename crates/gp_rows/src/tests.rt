@@ -21,6 +21,28 @@ const ROW: Row = Row {
     floor: 1,
 };
 
+// A row of another device, paired later.
+const LATER: Row = Row {
+    src: Src(9),
+    key: Key([8; 16]),
+    kind: KeyKind::Nwk,
+    level: Level::Three,
+    mode: Mode::Unicast,
+    group: 0,
+    device: 7,
+    order: 2,
+    live: true,
+    floor: 3,
+};
+
+// A table of these two rows.
+fn two_rows(alloc: Global) -> Option<Table> {
+    let mut table = Table::new(alloc).ok()?;
+    table.add(ROW).ok()?;
+    table.add(LATER).ok()?;
+    Some(table)
+}
+
 fn first_row<L: Ledger>(rt: &impl Abort, alloc: Global, blank: Blank) -> Result<(), Fail>
     requires name { blank.name ≡ L.name }
     requires parts { blank.parts ≡ L.parts }
@@ -45,6 +67,18 @@ fn first_row<L: Ledger>(rt: &impl Abort, alloc: Global, blank: Blank) -> Result<
         table.retire(0, 6);
         assert_eq!(rt; table.find(ROW.src, &mut steps), None);
         assert_eq!(rt; table.same(ROW.src, &ROW.key, &mut steps), Some(0));
+    }
+    Ok(())
+}
+
+#[test]
+fn a_row_is_that_of_its_number(rt: HostRuntime) -> Result<(), Fail> {
+    let table = two_rows(rt.alloc()).ok_or("no memory")?;
+    assert_eq!(rt; table.count(), 2);
+    for (at, row) in [(0, ROW), (1, LATER)] {
+        if at < table.count() {
+            assert_eq!(rt; *table.row(at), row);
+        }
     }
     Ok(())
 }
