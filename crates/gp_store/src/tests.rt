@@ -408,6 +408,27 @@ fn a_disk_is_refused_by_name(rt: HostRuntime) -> Result<(), Fail> {
     Ok(())
 }
 
+// An arming of the second commit from now is due from its begin on, and falls after so many calls.
+#[test]
+fn an_arming_falls_in_its_commit(rt: HostRuntime) -> Result<(), Fail> {
+    let alloc = rt.alloc();
+    for is_fault in [false, true] {
+        let mut store = prepared(&rt, alloc)?;
+        if is_fault {
+            store.arm_fault(2, 3);
+        } else {
+            store.arm_cut(2, 3);
+        }
+        assert!(rt; !store.due() && !store.stopped());
+        assert_eq!(rt; raise(&mut store, 0, 100), Ok(()));
+        assert!(rt; !store.due() && !store.stopped());
+        assert_eq!(rt; raise(&mut store, 0, 101), Err(CommitFault::DiskFault));
+        assert!(rt; store.due());
+        assert_eq!(rt; store.stopped(), !is_fault);
+    }
+    Ok(())
+}
+
 #[test]
 fn a_halted_store_stays_so(rt: HostRuntime) -> Result<(), Fail> {
     let alloc = rt.alloc();
