@@ -15,6 +15,18 @@ has_proxy options = has_bit options 0x4000
 
 -- ---- Commissioning Notification
 
+-- bit 3: RxAfterTx
+abbrev pub notice_rx_after : ℕ → Bool
+notice_rx_after options = has_bit options 8
+
+-- bits 4 and 5: the security level
+abbrev pub notice_level : ℕ → ℕ
+notice_level options = options / 16 % 4
+
+-- bits 6 to 8: the key type
+abbrev pub notice_key_type : ℕ → ℕ
+notice_key_type options = options / 64 % 8
+
 -- bit 11: proxy info is there
 abbrev pub notice_has_proxy : ℕ → Bool
 notice_has_proxy options = has_bit options 0x0800

@@ -29,6 +29,27 @@ impl NotificationOptions {
 pub struct NoticeOptions(pub u16);
 
 impl NoticeOptions {
+    /// Bit 3, RxAfterTx: whether the device listens after the frame.
+    pub fn rx_after(self) -> bool
+        ensures { result ≡ words.notice_rx_after self.0 }
+    {
+        self.0 / 8 % 2 == 1
+    }
+
+    /// Bits 4 and 5: the security level of the frame.
+    pub fn level(self) -> u8
+        ensures { result ≡ words.notice_level self.0 }
+    {
+        (self.0 / 16 % 4) as u8
+    }
+
+    /// Bits 6 to 8: the key type, as a number.
+    pub fn key_type(self) -> u8
+        ensures { result ≡ words.notice_key_type self.0 }
+    {
+        (self.0 / 64 % 8) as u8
+    }
+
     /// Bit 11: whether proxy info is there.
     pub fn has_proxy(self) -> bool
         ensures { result ≡ words.notice_has_proxy self.0 }

@@ -23,6 +23,16 @@ control frame = flag frame.maintenance + 12 + 64 * flag frame.auto + 128 * flag 
 abbrev pub extension : Ext → ℕ
 extension ext = 8 * ext.level + 32 * flag ext.individual + 64 * flag ext.rx_after + 128 * flag ext.to_device
 
+-- the header octets: NWK frame control, extension, SrcID, counter
+unfoldable pub header : Gpdf → List ℕ
+header frame =
+    joined
+    (octet (control frame)
+    ∷ optional (λ ext. octet (extension ext)) frame.ext
+    ∷ optional (λ src. to_le_bytes w32 src.0) frame.src
+    ∷ optional (to_le_bytes w32) frame.counter
+    ∷ [])
+
 -- the fields of a frame one after the other
 abbrev pub spelling : Mpdu → List ℕ
 spelling mpdu =

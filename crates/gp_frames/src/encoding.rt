@@ -5,8 +5,9 @@ ghost use Rattle.std.specs.Bool.{OnTrue};
 ghost use Rattle.std.specs.Option.{MatchOption};
 ghost use Rattle.std.specs.Int.{w32, to_le_bytes};
 ghost use Rattle.gp_base.specs.Field.{Adds, IsOctets, octet, optional};
-ghost use Rattle.gp_frames.specs.Frame.{control, extension, level_of, Frame, IsValid};
+ghost use Rattle.gp_frames.specs.Frame.{extension, level_of, Frame, IsValid};
 ghost use Rattle.gp_frames.specs.Widths.{HasWidths, head_octets, field_octets, in_parts, has_fields};
+ghost use Rattle.gp_frames.specs.Frame as words;
 
 use crate::frame::{Ext, Gpdf, Mpdu};
 use gp_base::field::{add, add_mic_if, add_number16, add_number32_if, add_octet};
@@ -30,13 +31,39 @@ pub fn encode(mpdu: &Mpdu) -> Octets
     }
 }
 
+/// The header octets of a frame, at most ten: NWK frame control, extension, SrcID and counter, as far as they are there.
+/// They are what a MIC covers besides the command (Zigbee PRO Green Power, A.1.5.4).
+pub fn header(frame: &Gpdf) -> Octets
+    requires { level_of frame.now ≤ 3 }
+    ensures octets { result ≡ words.header frame.now }
+    ensures size { length result ≤ 10 }
+{
+    match spell_header(frame) {
+        Some(octets) => octets,
+        None => unreachable!(),
+    }
+}
+
+#[tactic(auto, unfolding(crate::specs::Frame::header))]
+fn spell_header(frame: &Gpdf) -> Option<Octets>
+    requires { level_of frame.now ≤ 3 }
+    ensures { MatchOption result (127 < length (words.header frame.now)) (λ octets. octets ≡ words.header frame.now) }
+{
+    let mut out = Octets::new();
+    add_octet(&mut out, frame.control())?;
+    add_ext(&mut out, frame.ext)?;
+    add_src(&mut out, frame.src)?;
+    add_number32_if(&mut out, frame.counter)?;
+    Some(out)
+}
+
 // Whether the level is one that a frame may have, and each field is there where it is to be.
 #[tactic(auto, unfolding(crate::specs::Widths::has_fields))]
 fn has_the_fields(frame: &Gpdf) -> bool
     ensures value { result ≡ has_fields frame.now }
     ensures level { OnTrue result (level_of frame.now ≤ 3) }
 {
-    let level = level_in(frame);
+    let level = frame.level();
     let is_secured = level > 1;
     (level == 0 || level == 2 || level == 3)
         && (level == 0 || !frame.maintenance)
@@ -54,15 +81,6 @@ fn agree(one: bool, other: bool) -> bool
     ensures { result ≡ Rattle.gp_base.specs.Field.agree one other }
 {
     one == other
-}
-
-fn level_in(frame: &Gpdf) -> u8
-    ensures { result ≡ level_of frame.now }
-{
-    match frame.ext {
-        Some(ext) => ext.level,
-        None => 0,
-    }
 }
 
 // Whether a value has at most 125 octets.
@@ -108,16 +126,7 @@ fn add_head(out: &mut Octets, mpdu: &Mpdu) -> Option<()>
     add(out, &[1, 8, mpdu.seq])?;
     add_number16(out, mpdu.pan)?;
     add_number16(out, mpdu.dest)?;
-    add_octet(out, control_of(&mpdu.frame))
-}
-
-fn control_of(frame: &Gpdf) -> u8
-    ensures { result ≡ control frame.now }
-{
-    u8::from(frame.maintenance)
-        + 12
-        + 64 * u8::from(frame.auto)
-        + 128 * u8::from(frame.ext.is_some())
+    add_octet(out, mpdu.frame.control())
 }
 
 #[tactic(auto, unfolding(crate::specs::Widths::field_octets))]
@@ -140,19 +149,9 @@ fn add_ext(out: &mut Octets, ext: Option<Ext>) -> Option<()>
     ensures { Adds (optional (λ e. octet (extension e)) ext) out.old out.new result }
 {
     match ext {
-        Some(ext) => add_octet(out, extension_of(ext)),
+        Some(ext) => add_octet(out, ext.octet()),
         None => Some(()),
     }
-}
-
-fn extension_of(ext: Ext) -> u8
-    requires { ext.level ≤ 3 }
-    ensures { result ≡ extension ext }
-{
-    8 * ext.level
-        + 32 * u8::from(ext.individual)
-        + 64 * u8::from(ext.rx_after)
-        + 128 * u8::from(ext.to_device)
 }
 
 fn add_src(out: &mut Octets, src: Option<Src>) -> Option<()>

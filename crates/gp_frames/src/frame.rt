@@ -1,5 +1,8 @@
 //! What a frame is, and why octets are none.
 
+ghost use Rattle.std.specs.Prelude.{◌≡◌, ◌≤◌};
+ghost use Rattle.gp_frames.specs.Frame as words;
+
 use gp_base::{Octets, Src};
 
 /// An MPDU that carries a Green Power device frame (IEEE 802.15.4, 7.2). It has the one MAC form that is
@@ -29,6 +32,19 @@ pub struct Ext {
     pub to_device: bool,
 }
 
+impl Ext {
+    /// The octet that it is sent as: ApplicationID 0, level, SecurityKey, RxAfterTx, direction.
+    pub fn octet(self) -> u8
+        requires { self.level ≤ 3 }
+        ensures { result ≡ words.extension self }
+    {
+        8 * self.level
+            + 32 * u8::from(self.individual)
+            + 64 * u8::from(self.rx_after)
+            + 128 * u8::from(self.to_device)
+    }
+}
+
 /// A Green Power device frame (Zigbee PRO Green Power, A.1.4.1).
 #[derive(Clone, PartialEq, Eq, Debug, Drop)]
 pub struct Gpdf {
@@ -46,6 +62,28 @@ pub struct Gpdf {
     pub body: Octets,
     /// The message integrity code, at level 2 and 3.
     pub mic: Option<[u8; 4]>,
+}
+
+impl Gpdf {
+    /// The security level, which is 0 without extension.
+    pub fn level(&self) -> u8
+        ensures { result ≡ words.level_of self.now }
+    {
+        match self.ext {
+            Some(ext) => ext.level,
+            None => 0,
+        }
+    }
+
+    /// The NWK frame control, as it is sent: type, version 3, auto-commissioning, extension.
+    pub fn control(&self) -> u8
+        ensures { result ≡ words.control self.now }
+    {
+        u8::from(self.maintenance)
+            + 12
+            + 64 * u8::from(self.auto)
+            + 128 * u8::from(self.ext.is_some())
+    }
 }
 
 /// Why octets are no frame. The first fault from the left answers. Each has a place in the octets: 125 for

@@ -10,5 +10,5 @@ mod encoding;
 mod frame;
 
 pub use decoding::decode;
-pub use encoding::{encode, valid};
+pub use encoding::{encode, header, valid};
 pub use frame::{Ext, FrameReason, Gpdf, Mpdu};

@@ -1,0 +1,3 @@
+pub mod Notice
+pub mod Protection
+pub mod Wrapping
