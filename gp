@@ -11,7 +11,9 @@ usage() {
 gp - Zigbee Green Power, proved
 
   gp decode < CAPTURE      lists the frames of a capture, one line each
+  gp decode KEY < CAPTURE  the same, and opens secured frames under a key of 32 hexadecimal digits
   gp decode --json < CAPTURE
+  gp decode --json KEY < CAPTURE
                            lists them as JSON, one object each
   gp format                writes an empty store of pairings into the file gp.disk of the current folder
   gp --help                prints this page
@@ -22,10 +24,12 @@ dropped; a last line without LF counts where it isn't empty. There are at most 1
 
 A frame is listed as
   KIND seq=XX pan=XXXX dest=XXXX auto=B ext=XX src=XXXXXXXX counter=N body=HEX mic=XXXXXXXX
-    read=WORD tag=-
+    read=WORD tag=WORD
 on one line, where KIND is data or maintenance, an absent field is '-', and the counter is decimal. read is what the
 command reads as: Plain, Move, Step, Vector, Report, Commissioning, Reply, ChannelRequest, ChannelConfig or Other; or
-REASON:PLACE with Empty, Short, ValueKind, ReservedLevel or ReservedKeyKind; or '-' at level 3, which isn't in clear. What is no frame is listed as
+REASON:PLACE with Empty, Short, ValueKind, ReservedLevel or ReservedKeyKind; or '-' for a body at level 3 that isn't in
+clear. tag is good or bad for a secured frame where a KEY was given: its MIC is right under that key, or it isn't; else it
+is '-'. With a good tag the body that is shown and read is the command in clear. What is no frame is listed as
   bad REASON PLACE
 with the first fault from the left and its place: TooLong, Short, MacForm, FrameKind, Version, AppId, LevelOne,
 SecuredMaintenance or NoCommand.
@@ -42,7 +46,7 @@ Trailing or Long.
 
 As JSON a frame is one compact object with the keys auto, body, command, counter, dest, ext, kind, mic, pan, seq, src and
 tag, a message is {"zcl":TEXT} with its listing as text, and what is refused is {"bad":REASON,"place":N}. In a frame an
-absent field is null; so is a command that is refused or isn't in clear. Octets and fields of a fixed width are hexadecimal
+absent field is null; so are a command that is refused or isn't in clear, and a tag that isn't told. Octets and fields of a fixed width are hexadecimal
 texts; identifiers, single octets and counters are numbers.
 
 Exit statuses, with their text on standard error after 'gp: ':

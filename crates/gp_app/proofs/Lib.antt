@@ -1,4 +1,5 @@
 pub mod Bodies
+pub mod Completeness
 mod JsonMembers
 pub mod LineLemmas
 pub mod MessageTexts

@@ -1,17 +1,43 @@
 -- What the words of the command line ask for.
-use Rattle.std.specs.Prelude.{ℕ, List, [], ◌∷◌, Option, Some, None, ◌&&◌, codes, if◌then◌else◌}
+use Rattle.std.specs.Prelude.{ℕ, ◌==◌, List, [], ◌∷◌, length, Option, Some, None, codes, if◌then◌else◌}
+use Rattle.std.specs.Option.{option_map}
+use Rattle.std.specs.Result.{result_ok}
 use Rattle.std.specs.Str.{bytes_eq}
+use Rattle.hex.specs.Hex.{decode_of}
+use Rattle.gp_base.specs.declared.identity.Key.{Key}
 use Rattle.gp_app.specs.declared.command.Command.{Command}
 use Rattle.gp_app.specs.declared.command.Command.TheVariants.{Decode, Format}
 use Rattle.gp_app.specs.declared.form.ListingForm.{ListingForm}
-use Rattle.gp_app.specs.declared.form.ListingForm.TheVariants.{Text, Json}
+use Rattle.gp_app.specs.declared.form.Style.{Style}
+use Rattle.gp_app.specs.declared.form.Style.TheVariants.{Text, Json}
 
--- `decode`, `decode --json` or `format`, and nothing else
+-- a key: 32 hexadecimal digits of either case
+unfoldable pub key_of : List ℕ → Option Key
+key_of word = if length word == 32 then option_map (λ octets. record { 0 = octets }) (result_ok (decode_of word)) else None
+
+-- the listing in a style, under a key that may be absent
+abbrev pub listed : Style → Option Key → Command
+listed style key = Decode (record { style = style; key = key })
+
+-- what follows the word `decode`: nothing, `--json`, a key, or `--json` and a key
+abbrev pub listing_words : List (List ℕ) → Option Command
+listing_words [] = Some (listed Text None)
+listing_words (word ∷ []) =
+    if bytes_eq word (codes "--json") then Some (listed Json None) else option_map (λ key. listed Text (Some key)) (key_of word)
+listing_words (word ∷ other ∷ []) =
+    if bytes_eq word (codes "--json") then option_map (λ key. listed Json (Some key)) (key_of other) else None
+listing_words (word ∷ other ∷ third ∷ others) = None
+
+-- the word `format` and no other
+abbrev pub format_words : List (List ℕ) → Option Command
+format_words [] = Some Format
+format_words (word ∷ others) = None
+
+-- the two, and nothing else
 abbrev pub command_of : List (List ℕ) → Option Command
 command_of [] = None
-command_of (word ∷ []) = if bytes_eq word (codes "decode") then Some (Decode Text) else if bytes_eq word (codes "format") then Some Format else None
-command_of (word ∷ option ∷ []) = if bytes_eq word (codes "decode") && bytes_eq option (codes "--json") then Some (Decode Json) else None
-command_of (word ∷ option ∷ other ∷ others) = None
+command_of (word ∷ others) =
+    if bytes_eq word (codes "decode") then listing_words others else if bytes_eq word (codes "format") then format_words others else None
 
 -- a fact of the form where the words ask for the listing, and one where they ask for the formatting
 abbrev pub OnDecode : Option Command → (ListingForm → Type 0) → Type 0

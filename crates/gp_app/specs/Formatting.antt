@@ -28,6 +28,11 @@ FormatLeaves NoMemory size image before after since = ⊥
 FormatLeaves (Worn generation) size image before after since = ⊥
 FormatLeaves TooLong size image before after since = ⊥
 
+-- On a disk that is large enough and whose header isn't begun, where no fault counts, the run is done.
+abbrev pub FormatCompletes : Status → ℕ → Option (List ℕ) → ℕ → ℕ → Type 0
+FormatCompletes status size image before after =
+    204800 ≤ size → (d : List ℕ) → image ≡ Some d → (IsBegun d → ⊥) → (Rose before after → ⊥) → status ≡ Done
+
 -- The disk's count of faults rose where its fault is named, and else stands.
 abbrev pub DiskCount : Status → ℕ → ℕ → Type 0
 DiskCount DiskFault before after = Rose before after

@@ -1,5 +1,5 @@
 -- What is listed for a line of a capture as JSON: one compact object (RFC 8259), its keys in the order of their bytes.
-use Rattle.std.specs.Prelude.{ℕ, ◌==◌, if◌then◌else◌, List, [], ◌∷◌, Option, Result, Ok, Err, codes}
+use Rattle.std.specs.Prelude.{ℕ, Bool, if◌then◌else◌, List, [], ◌∷◌, Option, Result, Ok, Err, codes}
 use Rattle.std.specs.Option.{option_map, option_map_or}
 use Rattle.std.specs.Int.{w16, w32, to_be_bytes}
 use Rattle.hex.specs.Hex.{encode_upper}
@@ -9,7 +9,7 @@ use Rattle.gp_base.specs.declared.identity.Key.{Key}
 use Rattle.gp_frames.specs.declared.frame.Gpdf.{Gpdf}
 use Rattle.gp_frames.specs.declared.frame.Mpdu.{Mpdu}
 use Rattle.gp_frames.specs.declared.frame.FrameReason.{FrameReason}
-use Rattle.gp_frames.specs.Frame.{extension, level_of}
+use Rattle.gp_frames.specs.Frame.{extension}
 use Rattle.gp_frames.specs.Reading.{reading}
 use Rattle.gp_commands.specs.declared.command.GpdCommand.{GpdCommand}
 use Rattle.gp_commands.specs.declared.command.GpdCommand.TheVariants as variant
@@ -23,7 +23,10 @@ use Rattle.gp_script.specs.Capture.{captured}
 use Rattle.gp_cluster.specs.declared.message.Zcl.{Zcl}
 use Rattle.gp_cluster.specs.declared.message.ClusterReason.{ClusterReason}
 use Rattle.gp_cluster.specs.Message.{reading as read_message}
-use Rattle.gp_app.specs.Listing.{reason_name, reason_place, kind_text}
+use Rattle.gp_app.specs.Listing.{reason_name, reason_place, kind_text, tag_word}
+use Rattle.gp_app.specs.declared.opening.Opening.{Opening}
+use Rattle.gp_app.specs.declared.opening.Opening.TheVariants.{Untold, Bad, Good}
+use Rattle.gp_app.specs.Opening.{opening, shown_body, is_clear}
 use Rattle.gp_app.specs.Messages.{message_text, cluster_reason_name, cluster_reason_place}
 
 -- octets as a text of hexadecimal digits in upper case, and a number as it is
@@ -142,9 +145,9 @@ abbrev pub command_data : Result GpdCommand CommandReason → Data
 command_data (Ok command) = object (command_members command)
 command_data (Err reason) = null
 
--- the body of a frame at level 3 isn't in clear, and isn't read
-unfoldable pub read_data : Gpdf → Data
-read_data frame = if level_of frame == 3 then null else command_data (read_command frame.body)
+-- what is in clear is read, and nothing else
+unfoldable pub read_data : Bool → List ℕ → Data
+read_data clear body = if clear then command_data (read_command body) else null
 
 -- ---- frames
 
@@ -164,21 +167,27 @@ header_members frame others =
     (with_member (codes "ext") (or_null (λ e. hex (extension e ∷ [])) frame.ext)
     (with_member (codes "src") (or_null (λ s. hex32 s.0) frame.src) others)))
 
--- the command and the MIC, and whether the MIC is right, which isn't told without a key
-unfoldable pub body_members : Gpdf → Members
-body_members frame =
-    with_member (codes "body") (hex frame.body)
-    (with_member (codes "command") (read_data frame)
-    (with_member (codes "mic") (or_null hex frame.mic)
-    (with_member (codes "tag") null no_members)))
+-- whether the MIC is right, null where that isn't told
+abbrev pub tag_data : Opening → Data
+tag_data Untold = null
+tag_data Bad = string (tag_word Bad)
+tag_data (Good command) = string (tag_word (Good command))
 
-unfoldable pub frame_members : Mpdu → Members
-frame_members mpdu = mac_members mpdu (header_members mpdu.frame (body_members mpdu.frame))
+-- the command and the MIC, what the command reads as, and whether the MIC is right
+unfoldable pub body_members : Opening → Gpdf → Members
+body_members told frame =
+    with_member (codes "body") (hex (shown_body told frame))
+    (with_member (codes "command") (read_data (is_clear told frame) (shown_body told frame))
+    (with_member (codes "mic") (or_null hex frame.mic)
+    (with_member (codes "tag") (tag_data told) no_members)))
+
+unfoldable pub frame_members : Opening → Mpdu → Members
+frame_members told mpdu = mac_members mpdu (header_members mpdu.frame (body_members told mpdu.frame))
 
 -- octets of the air
-unfoldable pub air_members : Result Mpdu FrameReason → Members
-air_members (Ok mpdu) = frame_members mpdu
-air_members (Err reason) = refusal_members reason
+unfoldable pub air_members : Option Key → Result Mpdu FrameReason → Members
+air_members key (Ok mpdu) = frame_members (opening key mpdu.frame) mpdu
+air_members key (Err reason) = refusal_members reason
 
 -- octets behind `zcl `: a message by its listing
 unfoldable pub sent_members : Result Zcl ClusterReason → Members
@@ -186,10 +195,10 @@ sent_members (Ok zcl) = with_member (codes "zcl") (string (message_text zcl)) no
 sent_members (Err reason) = bad_members (cluster_reason_name reason) (cluster_reason_place reason)
 
 -- what a line of a capture holds
-abbrev pub capture_json : Capture → List ℕ
-capture_json (Frame octets) = compact_text (object (air_members (reading octets)))
-capture_json (Message octets) = compact_text (object (sent_members (read_message octets)))
+abbrev pub capture_json : Option Key → Capture → List ℕ
+capture_json key (Frame octets) = compact_text (object (air_members key (reading octets)))
+capture_json key (Message octets) = compact_text (object (sent_members (read_message octets)))
 
--- the JSON for a line, where it is a line of a capture
-unfoldable pub json_listing : List ℕ → Option (List ℕ)
-json_listing line = option_map capture_json (captured line)
+-- the JSON for a line, where it is a line of a capture; the key, where one is given, opens secured frames
+unfoldable pub json_listing : Option Key → List ℕ → Option (List ℕ)
+json_listing key line = option_map (capture_json key) (captured line)

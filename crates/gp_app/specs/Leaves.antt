@@ -1,5 +1,5 @@
 -- What a run leaves, by its status.
-use Rattle.std.specs.Prelude.{◌≡◌, ℕ, ◌⊎◌, List, ◌++◌, take, Option}
+use Rattle.std.specs.Prelude.{◌≡◌, ℕ, ◌⊎◌, List, ◌++◌, take, Option, Some}
 use Rattle.std.specs.Io.KnownBytes.{Appends, Consumes, IsAtEnd}
 use Rattle.gp_base.specs.Outside.{Rose}
 use Rattle.gp_app.specs.declared.status.Status.{Status}
@@ -41,6 +41,12 @@ abbrev pub Counts : Status → ℕ → ℕ → ℕ → ℕ → Type 0
 Counts ReadFault source_before source_after out_before out_after = Rose source_before source_after × (out_after ≡ out_before)
 Counts WriteFault source_before source_after out_before out_after = (source_after ≡ source_before) × Rose out_before out_after
 Counts _ source_before source_after out_before out_after = (source_after ≡ source_before) × (out_after ≡ out_before)
+
+-- Where every line of the whole input is listed and no count of faults rises, the run is done, or memory wasn't found.
+abbrev pub Completes : (List ℕ → Option (List ℕ)) → Status → Option (List ℕ) → ℕ → ℕ → ℕ → ℕ → Type 0
+Completes listing status left source_before source_after out_before out_after =
+    (input : List ℕ) → left ≡ Some input → (outcome listing input).status ≡ Done →
+    (Rose source_before source_after → ⊥) → (Rose out_before out_after → ⊥) → (status ≡ Done) ⊎ (status ≡ NoMemory)
 
 -- A last text is written and the status answered, or a front of it and a write fault; where memory wasn't found, nothing is.
 abbrev pub SaysOr : Status → Status → Option (List ℕ) → Option (List ℕ) → List ℕ → ℕ → ℕ → Type 0

@@ -5,6 +5,7 @@ pub mod Leaves
 pub mod Json
 pub mod Listing
 pub mod Messages
+pub mod Opening
 pub mod Outcome
 pub mod Stream
 pub mod Texts

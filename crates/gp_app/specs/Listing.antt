@@ -3,13 +3,14 @@ use Rattle.std.specs.Prelude.{ℕ, ◌==◌, if◌then◌else◌, Bool, true, fa
 use Rattle.std.specs.Option.{option_map}
 use Rattle.std.specs.Int.{w16, to_be_bytes}
 use Rattle.hex.specs.Hex.{encode_upper}
+use Rattle.gp_base.specs.declared.identity.Key.{Key}
 use Rattle.gp_frames.specs.declared.frame.Ext.{Ext}
 use Rattle.gp_frames.specs.declared.frame.Gpdf.{Gpdf}
 use Rattle.gp_frames.specs.declared.frame.Mpdu.{Mpdu}
 use Rattle.gp_frames.specs.declared.frame.FrameReason.{FrameReason}
 use Rattle.gp_frames.specs.declared.frame.FrameReason.TheVariants as reason
 use Rattle.gp_base.specs.Field.{octet_at}
-use Rattle.gp_frames.specs.Frame.{extension, level_of}
+use Rattle.gp_frames.specs.Frame.{extension}
 use Rattle.gp_commands.specs.declared.command.GpdCommand.{GpdCommand}
 use Rattle.gp_commands.specs.declared.command.GpdCommand.TheVariants.{Plain, Move, Step, Vector, Report, Commissioning, Reply, ChannelRequest, ChannelConfig, Other}
 use Rattle.gp_commands.specs.declared.command.CommandReason.{CommandReason}
@@ -20,6 +21,9 @@ use Rattle.gp_script.specs.declared.capture.Capture.{Capture}
 use Rattle.gp_script.specs.declared.capture.Capture.TheVariants.{Frame, Message}
 use Rattle.gp_script.specs.Capture.{captured}
 use Rattle.gp_cluster.specs.Message.{reading as read_message}
+use Rattle.gp_app.specs.declared.opening.Opening.{Opening}
+use Rattle.gp_app.specs.declared.opening.Opening.TheVariants.{Untold, Bad, Good}
+use Rattle.gp_app.specs.Opening.{opening, shown_body, is_clear}
 use Rattle.gp_app.specs.Texts.{or_dash, digit, src_text, counter_text, mic_text, bad_text}
 use Rattle.gp_app.specs.Messages.{sent_text}
 
@@ -109,28 +113,38 @@ unfoldable pub command_text : List ℕ → Result GpdCommand CommandReason → L
 command_text body (Ok command) = variant_name command
 command_text body (Err reason) = command_reason_name reason ++ codes ":" ++ decimal (command_reason_place body reason)
 
--- the body of a frame at level 3 isn't in clear, and isn't read
-unfoldable pub read_text : Gpdf → List ℕ
-read_text frame = codes " read=" ++ (if level_of frame == 3 then codes "-" else command_text frame.body (read_command frame.body))
+-- what is in clear is read, and nothing else
+unfoldable pub read_text : Bool → List ℕ → List ℕ
+read_text clear body = codes " read=" ++ (if clear then command_text body (read_command body) else codes "-")
 
--- the command and the MIC, what the command reads as, and whether the MIC is right, which isn't told without a key
-unfoldable pub body_text : Gpdf → List ℕ
-body_text frame = (codes " body=" ++ encode_upper frame.body) ++ mic_text frame.mic ++ read_text frame ++ codes " tag=-"
+-- whether the MIC is right
+abbrev pub tag_word : Opening → List ℕ
+tag_word Untold = codes "-"
+tag_word Bad = codes "bad"
+tag_word (Good command) = codes "good"
 
--- a frame that was read
-unfoldable pub frame_text : Mpdu → List ℕ
-frame_text mpdu = mac_text mpdu ++ header_text mpdu.frame ++ body_text mpdu.frame
+unfoldable pub tag_text : Opening → List ℕ
+tag_text told = codes " tag=" ++ tag_word told
+
+-- the command and the MIC, what the command reads as, and whether the MIC is right
+unfoldable pub body_text : Opening → Gpdf → List ℕ
+body_text told frame =
+    (codes " body=" ++ encode_upper (shown_body told frame)) ++ mic_text frame.mic ++ read_text (is_clear told frame) (shown_body told frame) ++ tag_text told
+
+-- a frame that was read, and what is told of it
+unfoldable pub frame_text : Opening → Mpdu → List ℕ
+frame_text told mpdu = mac_text mpdu ++ header_text mpdu.frame ++ body_text told mpdu.frame
 
 -- octets of the air
-unfoldable pub air_text : Result Mpdu FrameReason → List ℕ
-air_text (Ok mpdu) = frame_text mpdu
-air_text (Err reason) = refusal_text reason
+unfoldable pub air_text : Option Key → Result Mpdu FrameReason → List ℕ
+air_text key (Ok mpdu) = frame_text (opening key mpdu.frame) mpdu
+air_text key (Err reason) = refusal_text reason
 
 -- what a line of a capture holds
-abbrev pub capture_text : Capture → List ℕ
-capture_text (Frame octets) = air_text (reading octets)
-capture_text (Message octets) = sent_text (read_message octets)
+abbrev pub capture_text : Option Key → Capture → List ℕ
+capture_text key (Frame octets) = air_text key (reading octets)
+capture_text key (Message octets) = sent_text (read_message octets)
 
--- the listing of a line, where it is a line of a capture
-unfoldable pub listing : List ℕ → Option (List ℕ)
-listing line = option_map capture_text (captured line)
+-- the listing of a line, where it is a line of a capture; the key, where one is given, opens secured frames
+unfoldable pub listing : Option Key → List ℕ → Option (List ℕ)
+listing key line = option_map (capture_text key) (captured line)

@@ -1,10 +1,14 @@
 //! The words of the command line.
 
-ghost use Rattle.std.specs.Prelude.{◌≡◌};
-ghost use Rattle.gp_app.specs.Command.{command_of};
+ghost use Rattle.std.specs.Prelude.{◌≡◌, ◌/◌, Some, None, length, codes, if◌then◌else◌};
+ghost use Rattle.std.specs.Result.{result_ok};
+ghost use Rattle.std.specs.Str.{bytes_eq};
+ghost use Rattle.hex.specs.Hex.{decode_of};
+ghost use Rattle.gp_app.specs.Command as spec;
+ghost use Rattle.gp_app.specs.Command.{command_of, key_of};
 
-use crate::form::ListingForm;
-use gp_base::Word;
+use crate::form::{ListingForm, Style};
+use gp_base::{Key, Word};
 
 /// What the words ask for.
 #[derive(Clone, Copy, PartialEq, Eq, Debug)]
@@ -19,25 +23,84 @@ pub enum Command {
 pub fn read_command(words: &[Word]) -> Option<Command>
     ensures { result ≡ command_of words.now }
 {
+    let [word, others @ ..] = words else {
+        return None;
+    };
+    if word.as_slice() == b"decode".as_slice() {
+        return listing_words(others);
+    }
+    if word.as_slice() == b"format".as_slice() {
+        return format_words(others);
+    }
+    None
+}
+
+// What follows the word `decode`.
+fn listing_words(words: &[Word]) -> Option<Command>
+    ensures { result ≡ spec.listing_words words.now }
+{
     match words {
+        [] => Some(listed(Style::Text, None)),
         [word] => {
-            if word.as_slice() == b"decode".as_slice() {
-                Some(Command::Decode(ListingForm::Text))
-            } else if word.as_slice() == b"format".as_slice() {
-                Some(Command::Format)
-            } else {
-                None
+            if is_json(word) {
+                return Some(listed(Style::Json, None));
             }
+            let key = read_key(word.as_slice())?;
+            Some(listed(Style::Text, Some(key)))
         }
-        [word, option] => {
-            if word.as_slice() == b"decode".as_slice()
-                && option.as_slice() == b"--json".as_slice()
-            {
-                Some(Command::Decode(ListingForm::Json))
-            } else {
-                None
+        [word, other] => {
+            if !is_json(word) {
+                return None;
             }
+            let key = read_key(other.as_slice())?;
+            Some(listed(Style::Json, Some(key)))
         }
         _ => None,
     }
+}
+
+// What follows the word `format`.
+fn format_words(words: &[Word]) -> Option<Command>
+    ensures { result ≡ spec.format_words words.now }
+{
+    match words {
+        [] => Some(Command::Format),
+        _ => None,
+    }
+}
+
+// The listing in a style, under a key that may be absent.
+fn listed(style: Style, key: Option<Key>) -> Command
+    ensures { result ≡ spec.listed style key }
+{
+    Command::Decode(ListingForm { style, key })
+}
+
+fn is_json(word: &Word) -> bool
+    ensures { result ≡ bytes_eq word.now (codes "--json") }
+{
+    word.as_slice() == b"--json".as_slice()
+}
+
+// A key of 32 hexadecimal digits of either case.
+#[tactic(auto, unfolding(crate::specs::Command::key_of))]
+fn read_key(digits: &[u8]) -> Option<Key>
+    ensures { result ≡ key_of digits.now }
+{
+    if digits.len() != 32 {
+        return None;
+    }
+    let mut octets = [0u8; 16];
+    if !decode_digits(digits, &mut octets) {
+        return None;
+    }
+    Some(Key(octets))
+}
+
+// Writes the octets that the digits name. It is `false` exactly where they name none.
+fn decode_digits(digits: &[u8], octets: &mut [u8]) -> bool
+    requires { length octets.old ≡ length digits.now / 2 }
+    ensures { result_ok (decode_of digits.now) ≡ (if result then Some octets.new else None) }
+{
+    hex::decode_to_slice(digits, octets).is_ok()
 }

@@ -6,15 +6,25 @@ ghost use Rattle.gp_app.specs.Form.{listing_of};
 
 use crate::json::push_json;
 use crate::listing::{Unlisted, push_listing};
+use gp_base::Key;
 use std::alloc::Global;
 
-/// A form of the listing.
+/// How a line of the listing is written.
 #[derive(Clone, Copy, PartialEq, Eq, Debug)]
-pub enum ListingForm {
+pub enum Style {
     /// A line of fields, `name=value`.
     Text,
     /// A compact JSON object (RFC 8259).
     Json,
+}
+
+/// A form of the listing.
+#[derive(Clone, Copy, PartialEq, Eq, Debug)]
+pub struct ListingForm {
+    /// How a line is written.
+    pub style: Style,
+    /// The key that opens secured frames, where one is given.
+    pub key: Option<Key>,
 }
 
 /// Adds the listing of a line in this form, without a line end.
@@ -29,8 +39,8 @@ pub fn push_form(
     ensures form { result ≡ Err Unlisted.Form → listing_of form line.now ≡ None }
     ensures kept { result ≡ Err Unlisted.Form → text.new.items ≡ text.old.items }
 {
-    match form {
-        ListingForm::Text => push_listing(text, line),
-        ListingForm::Json => push_json(alloc, text, line),
+    match form.style {
+        Style::Text => push_listing(text, form.key, line),
+        Style::Json => push_json(alloc, text, form.key, line),
     }
 }

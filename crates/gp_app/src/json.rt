@@ -8,16 +8,18 @@ ghost use Rattle.serde_json.specs.Written.{compact_text, members_have_float};
 ghost use Rattle.gp_frames.specs.Frame.{extension};
 ghost use Rattle.gp_frames.specs.Reading.{reading};
 ghost use Rattle.gp_cluster.specs.Message.{reading as read_message};
-ghost use Rattle.gp_app.specs.Json.{hex, hex32, or_null, bad_members, refusal_members, sent_members, mac_members, header_members, body_members, frame_members, air_members, capture_json, json_listing};
+ghost use Rattle.gp_app.specs.Opening.{shown_body};
+ghost use Rattle.gp_app.specs.Json.{hex, hex32, or_null, tag_data, bad_members, refusal_members, sent_members, mac_members, header_members, body_members, frame_members, air_members, capture_json, json_listing};
 
 use crate::json::command::put_read;
 use crate::json::member::{
     put_flag, put_hex, put_mic, put_null, put_number, put_optional_number, put_text,
 };
 use crate::json::message::put_sent;
-use crate::listing::{Unlisted, kind, named, octet_of};
+use crate::listing::{Unlisted, kind, named};
+use crate::opening::{Opening, open};
 use crate::text::push_text;
-use gp_base::Src;
+use gp_base::{Key, Src};
 use gp_frames::{Ext, FrameReason, Gpdf, Mpdu, decode};
 use gp_script::{Capture, read_capture};
 use serde_json::{Map, Value};
@@ -32,33 +34,48 @@ mod tests;
 
 /// Adds the listing of a line as JSON, without a line end.
 #[tactic(auto, unfolding(crate::specs::Json::json_listing))]
-pub fn push_json(alloc: Global, text: &mut Vec<u8>, line: &[u8]) -> Result<(), Unlisted>
+pub fn push_json(
+    alloc: Global,
+    text: &mut Vec<u8>,
+    key: Option<Key>,
+    line: &[u8],
+) -> Result<(), Unlisted>
     requires { length line.now ≤ 1024 }
-    ensures ok { OnOk result (IsSomeAnd (json_listing line.now) (λ listed. text.new.items ≡ text.old.items ++ listed)) }
-    ensures form { result ≡ Err Unlisted.Form → json_listing line.now ≡ None }
+    ensures ok { OnOk result (IsSomeAnd (json_listing key line.now) (λ listed. text.new.items ≡ text.old.items ++ listed)) }
+    ensures form { result ≡ Err Unlisted.Form → json_listing key line.now ≡ None }
     ensures kept { result ≡ Err Unlisted.Form → text.new.items ≡ text.old.items }
 {
     let Ok(capture) = read_capture(line) else {
         return Err(Unlisted::Form);
     };
-    push_capture(alloc, text, &capture)?;
+    push_capture(alloc, text, key, &capture)?;
     Ok(())
 }
 
-fn push_capture(alloc: Global, text: &mut Vec<u8>, capture: &Capture) -> Result<(), AllocError>
-    ensures { OnOk result (text.new.items ≡ text.old.items ++ capture_json capture.now) }
+fn push_capture(
+    alloc: Global,
+    text: &mut Vec<u8>,
+    key: Option<Key>,
+    capture: &Capture,
+) -> Result<(), AllocError>
+    ensures { OnOk result (text.new.items ≡ text.old.items ++ capture_json key capture.now) }
 {
     match capture {
-        Capture::Frame(octets) => push_air(alloc, text, octets.as_slice()),
+        Capture::Frame(octets) => push_air(alloc, text, key, octets.as_slice()),
         Capture::Message(octets) => push_sent(alloc, text, octets.as_slice()),
     }
 }
 
-fn push_air(alloc: Global, text: &mut Vec<u8>, octets: &[u8]) -> Result<(), AllocError>
-    ensures { OnOk result (text.new.items ≡ text.old.items ++ compact_text (object (air_members (reading octets.now)))) }
+fn push_air(
+    alloc: Global,
+    text: &mut Vec<u8>,
+    key: Option<Key>,
+    octets: &[u8],
+) -> Result<(), AllocError>
+    ensures { OnOk result (text.new.items ≡ text.old.items ++ compact_text (object (air_members key (reading octets.now)))) }
 {
     let mut map = Map::new(alloc);
-    put_air(alloc, &mut map, octets)?;
+    put_air(alloc, &mut map, key, octets)?;
     push_object(alloc, text, map)
 }
 
@@ -80,13 +97,21 @@ fn push_object(alloc: Global, text: &mut Vec<u8>, map: Map<String, Value>) -> Re
 }
 
 #[tactic(auto, unfolding(crate::specs::Json::air_members))]
-fn put_air(alloc: Global, map: &mut Map<String, Value>, octets: &[u8]) -> Result<(), AllocError>
+fn put_air(
+    alloc: Global,
+    map: &mut Map<String, Value>,
+    key: Option<Key>,
+    octets: &[u8],
+) -> Result<(), AllocError>
     requires { map.old.entries ≡ [] }
-    ensures members { OnOk result (members_view map.new.entries ≡ air_members (reading octets.now)) }
+    ensures members { OnOk result (members_view map.new.entries ≡ air_members key (reading octets.now)) }
     ensures whole { OnOk result (members_have_float (members_view map.new.entries) ≡ false) }
 {
     match decode(octets) {
-        Ok(mpdu) => put_frame(alloc, map, &mpdu),
+        Ok(mpdu) => {
+            let told = open(key, &mpdu.frame);
+            put_frame(alloc, map, &told, &mpdu)
+        }
         Err(reason) => put_refusal(alloc, map, reason),
     }
 }
@@ -122,29 +147,57 @@ fn put_bad(
 }
 
 #[tactic(auto, unfolding(crate::specs::Json::frame_members))]
-fn put_frame(alloc: Global, map: &mut Map<String, Value>, mpdu: &Mpdu) -> Result<(), AllocError>
+fn put_frame(
+    alloc: Global,
+    map: &mut Map<String, Value>,
+    told: &Opening,
+    mpdu: &Mpdu,
+) -> Result<(), AllocError>
     requires empty { map.old.entries ≡ [] }
     requires level { IfSome mpdu.now.frame.ext (λ ext. ext.level ≤ 3) }
-    requires body { length mpdu.now.frame.body ≤ 117 }
-    ensures members { OnOk result (members_view map.new.entries ≡ frame_members mpdu.now) }
+    requires body { length (shown_body told.now mpdu.now.frame) ≤ 117 }
+    ensures members { OnOk result (members_view map.new.entries ≡ frame_members told.now mpdu.now) }
     ensures whole { OnOk result (members_have_float (members_view map.new.entries) ≡ false) }
 {
-    put_body(alloc, map, &mpdu.frame)?;
+    put_body(alloc, map, told, &mpdu.frame)?;
     put_header(alloc, map, &mpdu.frame)?;
     put_mac(alloc, map, mpdu)
 }
 
 #[tactic(auto, unfolding(crate::specs::Json::body_members))]
-fn put_body(alloc: Global, map: &mut Map<String, Value>, frame: &Gpdf) -> Result<(), AllocError>
+fn put_body(
+    alloc: Global,
+    map: &mut Map<String, Value>,
+    told: &Opening,
+    frame: &Gpdf,
+) -> Result<(), AllocError>
     requires empty { map.old.entries ≡ [] }
-    requires body { length frame.now.body ≤ 117 }
-    ensures members { OnOk result (members_view map.new.entries ≡ body_members frame.now) }
+    requires body { length (shown_body told.now frame.now) ≤ 117 }
+    ensures members { OnOk result (members_view map.new.entries ≡ body_members told.now frame.now) }
     ensures whole { OnOk result (members_have_float (members_view map.new.entries) ≡ false) }
 {
-    put_null(alloc, map, "tag")?;
+    let body = told.body(frame);
+    put_tag(alloc, map, "tag", told)?;
     put_mic(alloc, map, "mic", &frame.mic)?;
-    put_read(alloc, map, "command", frame)?;
-    put_hex(alloc, map, "body", frame.body.as_slice())
+    put_read(alloc, map, "command", told.is_clear(frame), body)?;
+    put_hex(alloc, map, "body", body)
+}
+
+// Puts whether the MIC is right, null where that isn't told.
+fn put_tag(
+    alloc: Global,
+    map: &mut Map<String, Value>,
+    key: &str,
+    told: &Opening,
+) -> Result<(), AllocError>
+    ensures member { OnOk result (members_view map.new.entries ≡ with_member key.now (tag_data told.now) (members_view map.old.entries)) }
+    ensures whole { OnOk result (members_have_float (members_view map.old.entries) ≡ false → members_have_float (members_view map.new.entries) ≡ false) }
+{
+    match told {
+        Opening::Untold => put_null(alloc, map, key),
+        Opening::Bad => put_text(alloc, map, key, told.tag()),
+        Opening::Good(_) => put_text(alloc, map, key, told.tag()),
+    }
 }
 
 #[tactic(auto, unfolding(crate::specs::Json::header_members))]
@@ -181,7 +234,7 @@ fn put_ext(
     ensures whole { OnOk result (members_have_float (members_view map.old.entries) ≡ false → members_have_float (members_view map.new.entries) ≡ false) }
 {
     match ext {
-        Some(ext) => put_hex(alloc, map, key, &[octet_of(ext)]),
+        Some(ext) => put_hex(alloc, map, key, &[ext.octet()]),
         None => put_null(alloc, map, key),
     }
 }

@@ -9,6 +9,7 @@ mod json;
 mod lines;
 mod listing;
 mod message;
+mod opening;
 mod running;
 mod status;
 mod text;

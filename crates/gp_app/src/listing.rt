@@ -2,15 +2,17 @@
 
 ghost use Rattle.std.specs.Prelude.{◌≡◌, ℕ, ◌≤◌, List, Option, [], ◌∷◌, ◌++◌, Some, None, length, IfSome, OnOk, OnErr, MatchResult};
 ghost use Rattle.std.specs.Option.{IsSomeAnd};
-ghost use Rattle.gp_frames.specs.Frame.{extension, level_of};
+ghost use Rattle.gp_frames.specs.Frame.{extension};
 ghost use Rattle.gp_commands.specs.Command.{reading as read_command};
 ghost use Rattle.gp_frames.specs.Reading.{reading};
-ghost use Rattle.gp_app.specs.Listing.{kind_text, refusal_text, mac_text, auto_text, ext_text, variant_name, command_reason_name, command_reason_place, keying_place, command_text, read_text, header_text, body_text, frame_text, air_text, capture_text, listing};
+ghost use Rattle.gp_app.specs.Listing.{kind_text, refusal_text, mac_text, auto_text, ext_text, variant_name, command_reason_name, command_reason_place, keying_place, command_text, read_text, tag_text, header_text, body_text, frame_text, air_text, capture_text, listing};
+ghost use Rattle.gp_app.specs.Opening.{shown_body};
 ghost use Rattle.gp_app.specs.Texts.{src_text, counter_text, mic_text, bad_text};
 
 use crate::message::push_sent;
+use crate::opening::{Opening, open};
 use crate::text::{push_field, push_hex, push_number, push_text};
-use gp_base::Src;
+use gp_base::{Key, Src};
 use gp_commands::{CommandReason, GpdCommand, read};
 use gp_frames::{Ext, FrameReason, Gpdf, Mpdu, decode};
 use gp_script::{Capture, read_capture};
@@ -38,34 +40,37 @@ impl From<AllocError> for Unlisted {
 
 /// Adds the listing of a line, without a line end.
 #[tactic(auto, unfolding(crate::specs::Listing::listing))]
-pub fn push_listing(text: &mut Vec<u8>, line: &[u8]) -> Result<(), Unlisted>
+pub fn push_listing(text: &mut Vec<u8>, key: Option<Key>, line: &[u8]) -> Result<(), Unlisted>
     requires { length line.now ≤ 1024 }
-    ensures ok { OnOk result (IsSomeAnd (listing line.now) (λ listed. text.new.items ≡ text.old.items ++ listed)) }
-    ensures form { result ≡ Err Unlisted.Form → listing line.now ≡ None }
+    ensures ok { OnOk result (IsSomeAnd (listing key line.now) (λ listed. text.new.items ≡ text.old.items ++ listed)) }
+    ensures form { result ≡ Err Unlisted.Form → listing key line.now ≡ None }
     ensures kept { result ≡ Err Unlisted.Form → text.new.items ≡ text.old.items }
 {
     let Ok(capture) = read_capture(line) else {
         return Err(Unlisted::Form);
     };
-    push_capture(text, &capture)?;
+    push_capture(text, key, &capture)?;
     Ok(())
 }
 
-fn push_capture(text: &mut Vec<u8>, capture: &Capture) -> Result<(), AllocError>
-    ensures { OnOk result (text.new.items ≡ text.old.items ++ capture_text capture.now) }
+fn push_capture(text: &mut Vec<u8>, key: Option<Key>, capture: &Capture) -> Result<(), AllocError>
+    ensures { OnOk result (text.new.items ≡ text.old.items ++ capture_text key capture.now) }
 {
     match capture {
-        Capture::Frame(octets) => push_air(text, octets.as_slice()),
+        Capture::Frame(octets) => push_air(text, key, octets.as_slice()),
         Capture::Message(octets) => push_sent(text, octets.as_slice()),
     }
 }
 
 #[tactic(auto, unfolding(crate::specs::Listing::air_text))]
-fn push_air(text: &mut Vec<u8>, octets: &[u8]) -> Result<(), AllocError>
-    ensures { OnOk result (text.new.items ≡ text.old.items ++ air_text (reading octets.now)) }
+fn push_air(text: &mut Vec<u8>, key: Option<Key>, octets: &[u8]) -> Result<(), AllocError>
+    ensures { OnOk result (text.new.items ≡ text.old.items ++ air_text key (reading octets.now)) }
 {
     match decode(octets) {
-        Ok(mpdu) => push_frame(text, &mpdu),
+        Ok(mpdu) => {
+            let told = open(key, &mpdu.frame);
+            push_frame(text, &told, &mpdu)
+        }
         Err(reason) => push_refusal(text, reason),
     }
 }
@@ -108,14 +113,14 @@ pub(crate) fn named(reason: FrameReason) -> (&'static str, u8)
 }
 
 #[tactic(auto, unfolding(crate::specs::Listing::frame_text))]
-fn push_frame(text: &mut Vec<u8>, mpdu: &Mpdu) -> Result<(), AllocError>
+fn push_frame(text: &mut Vec<u8>, told: &Opening, mpdu: &Mpdu) -> Result<(), AllocError>
     requires level { IfSome mpdu.now.frame.ext (λ ext. ext.level ≤ 3) }
-    requires body { length mpdu.now.frame.body ≤ 117 }
-    ensures { OnOk result (text.new.items ≡ text.old.items ++ frame_text mpdu.now) }
+    requires body { length (shown_body told.now mpdu.now.frame) ≤ 117 }
+    ensures { OnOk result (text.new.items ≡ text.old.items ++ frame_text told.now mpdu.now) }
 {
     push_mac(text, mpdu)?;
     push_header(text, &mpdu.frame)?;
-    push_body(text, &mpdu.frame)
+    push_body(text, told, &mpdu.frame)
 }
 
 #[tactic(auto, unfolding(crate::specs::Listing::mac_text))]
@@ -162,20 +167,9 @@ fn push_ext(text: &mut Vec<u8>, ext: Option<Ext>) -> Result<(), AllocError>
     ensures { OnOk result (text.new.items ≡ text.old.items ++ ext_text ext) }
 {
     match ext {
-        Some(ext) => push_field(text, " ext=", &[octet_of(ext)]),
+        Some(ext) => push_field(text, " ext=", &[ext.octet()]),
         None => push_text(text, " ext=-"),
     }
-}
-
-// The octet that an extended frame control is sent as.
-pub(crate) fn octet_of(ext: Ext) -> u8
-    requires { ext.level ≤ 3 }
-    ensures { result ≡ extension ext }
-{
-    8 * ext.level
-        + 32 * u8::from(ext.individual)
-        + 64 * u8::from(ext.rx_after)
-        + 128 * u8::from(ext.to_device)
 }
 
 #[tactic(auto, unfolding(crate::specs::Texts::src_text))]
@@ -202,35 +196,35 @@ pub(crate) fn push_counter(text: &mut Vec<u8>, counter: Option<u32>) -> Result<(
 }
 
 #[tactic(auto, unfolding(crate::specs::Listing::body_text))]
-fn push_body(text: &mut Vec<u8>, frame: &Gpdf) -> Result<(), AllocError>
-    requires { length frame.now.body ≤ 117 }
-    ensures { OnOk result (text.new.items ≡ text.old.items ++ body_text frame.now) }
+fn push_body(text: &mut Vec<u8>, told: &Opening, frame: &Gpdf) -> Result<(), AllocError>
+    requires { length (shown_body told.now frame.now) ≤ 117 }
+    ensures { OnOk result (text.new.items ≡ text.old.items ++ body_text told.now frame.now) }
 {
-    push_field(text, " body=", frame.body.as_slice())?;
+    let body = told.body(frame);
+    push_field(text, " body=", body)?;
     push_mic(text, &frame.mic)?;
-    push_read(text, frame)?;
-    push_text(text, " tag=-")
+    push_read(text, told.is_clear(frame), body)?;
+    push_tag(text, told)
 }
 
 #[tactic(auto, unfolding(crate::specs::Listing::read_text))]
-fn push_read(text: &mut Vec<u8>, frame: &Gpdf) -> Result<(), AllocError>
-    requires { length frame.now.body ≤ 117 }
-    ensures { OnOk result (text.new.items ≡ text.old.items ++ read_text frame.now) }
+fn push_read(text: &mut Vec<u8>, is_clear: bool, body: &[u8]) -> Result<(), AllocError>
+    requires { length body.now ≤ 117 }
+    ensures { OnOk result (text.new.items ≡ text.old.items ++ read_text is_clear body.now) }
 {
     push_text(text, " read=")?;
-    if level(frame) == 3 {
+    if !is_clear {
         return push_text(text, "-");
     }
-    push_command(text, frame.body.as_slice())
+    push_command(text, body)
 }
 
-pub(crate) fn level(frame: &Gpdf) -> u8
-    ensures { result ≡ level_of frame.now }
+#[tactic(auto, unfolding(crate::specs::Listing::tag_text))]
+fn push_tag(text: &mut Vec<u8>, told: &Opening) -> Result<(), AllocError>
+    ensures { OnOk result (text.new.items ≡ text.old.items ++ tag_text told.now) }
 {
-    match frame.ext {
-        Some(ext) => ext.level,
-        None => 0,
-    }
+    push_text(text, " tag=")?;
+    push_text(text, told.tag())
 }
 
 #[tactic(auto, unfolding(crate::specs::Listing::command_text))]

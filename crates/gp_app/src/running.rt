@@ -2,8 +2,8 @@
 
 ghost use Rattle.std.specs.Prelude.{◌≡◌, ℕ, [], IfSome, IfNone, None, ◌↔◌};
 ghost use Rattle.gp_app.specs.Command.{command_of, OnDecode, OnFormat};
-ghost use Rattle.gp_app.specs.Formatting.{FormatLeaves, DiskCount};
-ghost use Rattle.gp_app.specs.Leaves.{Leaves, Counts, Says};
+ghost use Rattle.gp_app.specs.Formatting.{FormatCompletes, FormatLeaves, DiskCount};
+ghost use Rattle.gp_app.specs.Leaves.{Completes, Leaves, Counts, Says};
 ghost use Rattle.gp_app.specs.Form.{listing_of};
 
 use crate::command::{Command, read_command};
@@ -22,7 +22,9 @@ const PIECE: usize = 16_384;
 /// Does what the words ask for: reads the source, writes the output or the disk, answers how that ended, and hands the
 /// disk back.
 ///
-/// `decode` lists the lines of a capture, a line each, and `decode --json` lists them as JSON. `format` writes an empty store on the disk.
+/// `decode` lists the lines of a capture, a line each, and `decode --json` lists them as JSON. A key behind these words,
+/// 32 hexadecimal digits, opens secured frames: the listing says whether the MIC of each is right under it, and where it
+/// is shows the command in clear. `format` writes an empty store on the disk.
 pub fn run<S: Source, O: Out, D: Disk>(
     alloc: Global,
     words: &[Word],
@@ -35,11 +37,13 @@ pub fn run<S: Source, O: Out, D: Disk>(
     ensures leaves { OnDecode (command_of words.now) (λ form. Leaves (listing_of form) result.0
         (S.left source.old) (S.left source.new) (O.written out.old) (O.written out.new)) }
     ensures counts { OnDecode (command_of words.now) (λ form. Counts result.0 (S.faults source.old) (S.faults source.new) (O.faults out.old) (O.faults out.new)) }
+    ensures completes { OnDecode (command_of words.now) (λ form. Completes (listing_of form) result.0 (S.left source.old) (S.faults source.old) (S.faults source.new) (O.faults out.old) (O.faults out.new)) }
     ensures keeps_the_disk { OnDecode (command_of words.now) (λ form. result.1 ≡ disk) }
 
     ensures formats { OnFormat (command_of words.now) (FormatLeaves result.0 (D.tally disk).size (D.image disk) (D.may_leave disk) (D.may_leave result.1) (D.left result.1)) }
     ensures short { OnFormat (command_of words.now) (result.0 ≡ Status.DiskRefused DiskReason.DiskShort → result.1 ≡ disk) }
     ensures faults { OnFormat (command_of words.now) (DiskCount result.0 (D.faults disk) (D.faults result.1)) }
+    ensures format_completes { OnFormat (command_of words.now) (FormatCompletes result.0 (D.tally disk).size (D.image disk) (D.faults disk) (D.faults result.1)) }
     ensures reads_and_writes_nothing { OnFormat (command_of words.now) ((source.new ≡ source.old) × (out.new ≡ out.old)) }
 {
     match read_command(words) {
@@ -50,7 +54,17 @@ pub fn run<S: Source, O: Out, D: Disk>(
 }
 
 // Writes an empty store.
-fn format_disk<D: Disk>(mut disk: D) -> (Status, D)
+fn format_disk<D: Disk>(disk: D) -> (Status, D)
+    ensures formats { FormatLeaves result.0 (D.tally disk).size (D.image disk) (D.may_leave disk) (D.may_leave result.1) (D.left result.1) }
+    ensures short { result.0 ≡ Status.DiskRefused DiskReason.DiskShort → result.1 ≡ disk }
+    ensures faults { DiskCount result.0 (D.faults disk) (D.faults result.1) }
+    ensures completes { FormatCompletes result.0 (D.tally disk).size (D.image disk) (D.faults disk) (D.faults result.1) }
+{
+    formatted(disk)
+}
+
+// The same, but for what it completes.
+fn formatted<D: Disk>(mut disk: D) -> (Status, D)
     ensures formats { FormatLeaves result.0 (D.tally disk).size (D.image disk) (D.may_leave disk) (D.may_leave result.1) (D.left result.1) }
     ensures short { result.0 ≡ Status.DiskRefused DiskReason.DiskShort → result.1 ≡ disk }
     ensures faults { DiskCount result.0 (D.faults disk) (D.faults result.1) }
@@ -69,6 +83,20 @@ fn format_disk<D: Disk>(mut disk: D) -> (Status, D)
 
 // Lists the lines of a source.
 fn list_lines<S: Source, O: Out>(
+    alloc: Global,
+    form: ListingForm,
+    source: &mut S,
+    out: &mut O,
+) -> Status
+    ensures leaves { Leaves (listing_of form) result (S.left source.old) (S.left source.new) (O.written out.old) (O.written out.new) }
+    ensures counts { Counts result (S.faults source.old) (S.faults source.new) (O.faults out.old) (O.faults out.new) }
+    ensures completes { Completes (listing_of form) result (S.left source.old) (S.faults source.old) (S.faults source.new) (O.faults out.old) (O.faults out.new) }
+{
+    list_pieces(alloc, form, source, out)
+}
+
+// The same, piece by piece of the source, but for what it completes.
+fn list_pieces<S: Source, O: Out>(
     alloc: Global,
     form: ListingForm,
     source: &mut S,

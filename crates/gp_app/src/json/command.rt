@@ -11,29 +11,28 @@ use crate::json::commissioning::{put_commissioning, put_reply};
 use crate::json::member::{
     put_hex, put_null, put_number, put_optional_number, put_text, put_value,
 };
-use crate::listing::level;
 use gp_base::Octets;
 use gp_commands::{GpdCommand, read};
-use gp_frames::Gpdf;
 use serde_json::{Map, Value};
 use std::alloc::{AllocError, Global};
 
-/// Puts what the body of a frame reads as.
+/// Puts what the command of a frame reads as, where it is in clear.
 #[tactic(auto, unfolding(crate::specs::Json::read_data))]
 pub(crate) fn put_read(
     alloc: Global,
     map: &mut Map<String, Value>,
     key: &str,
-    frame: &Gpdf,
+    is_clear: bool,
+    body: &[u8],
 ) -> Result<(), AllocError>
-    requires { length frame.now.body ≤ 117 }
-    ensures member { OnOk result (members_view map.new.entries ≡ with_member key.now (read_data frame.now) (members_view map.old.entries)) }
+    requires { length body.now ≤ 117 }
+    ensures member { OnOk result (members_view map.new.entries ≡ with_member key.now (read_data is_clear body.now) (members_view map.old.entries)) }
     ensures whole { OnOk result (members_have_float (members_view map.old.entries) ≡ false → members_have_float (members_view map.new.entries) ≡ false) }
 {
-    if level(frame) == 3 {
+    if !is_clear {
         return put_null(alloc, map, key);
     }
-    put_command(alloc, map, key, frame.body.as_slice())
+    put_command(alloc, map, key, body)
 }
 
 fn put_command(

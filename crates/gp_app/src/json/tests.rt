@@ -11,7 +11,7 @@ fn listed(rt: &HostRuntime, line: &str) -> Result<(Result<(), Unlisted>, Vec<u8>
     if line.len() > 1024 {
         return Err(Fail::from("a line of more than 1,024 octets"));
     }
-    let answer = push_json(rt.alloc(), &mut text, line.as_bytes());
+    let answer = push_json(rt.alloc(), &mut text, None, line.as_bytes());
     Ok((answer, text))
 }
 

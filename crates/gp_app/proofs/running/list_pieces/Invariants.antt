@@ -2,7 +2,7 @@ use Rattle.std.proofs.Common.{◌≡◌, ◌≤◌, []}
 use Rattle.gp_app.specs.Form.{listing_of}
 use Rattle.gp_app.specs.Stream.{HasNoEnd, room}
 use Rattle.gp_app.proofs.Runs.{Reads}
-use Rattle.gp_app.proofs.running.list_lines.Given as goal
+use Rattle.gp_app.proofs.running.list_pieces.Given as goal
 
 abbrev pub invariant-pieces : goal.invariant-pieces
 invariant-pieces g l = record {

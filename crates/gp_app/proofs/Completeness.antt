@@ -1,0 +1,60 @@
+-- A run that has no cause to stop doesn't.
+use Rattle.std.proofs.Common.{◌≡◌, ℕ, ◌≤◌, ◌⊎◌, inl, inr, List, ◌++◌, Option, Some, None, refl, sym, ap, ◌∙◌, arith}
+use Rattle.std.specs.Io.KnownBytes.{Consumes}
+use Rattle.std.proofs.lemmas.List.{append-nil}
+use Rattle.gp_base.specs.Outside.{Rose}
+use Rattle.gp_store.specs.Formatting.{IsBegun}
+use Rattle.gp_app.specs.declared.status.DiskReason.TheVariants.{DiskShort, NotFormatted, AlreadyFormatted, SlotForm}
+use Rattle.gp_app.specs.declared.status.Status.{Status}
+use Rattle.gp_app.specs.declared.status.Status.TheVariants.{Done, BadLine, Usage, ReadFault, WriteFault, DiskFault, NoMemory, DiskRefused, Worn, TooLong}
+use Rattle.gp_app.specs.Formatting.{DiskCount, FormatCompletes, FormatLeaves}
+use Rattle.gp_app.specs.Leaves.{Completes, Counts, Decides, Leaves}
+use Rattle.gp_app.specs.Outcome.{Outcome, outcome}
+
+-- what the octets that were read decide is what comes of the whole input
+decided : (listing : List ℕ → Option (List ℕ)) (left : Option (List ℕ)) (input read : List ℕ) (told : Outcome) → Consumes (Some input) left read →
+    Decides listing left read told → outcome listing input ≡ told
+decided listing None input read told c d = absurd c
+decided listing (Some left) input read told c (inl always) = ap (outcome listing) c ∙ always left
+decided listing (Some left) input read told c (inr end) = ap (outcome listing) (c ∙ ap (λ (xs : List ℕ). read ++ xs) end.0 ∙ append-nil read) ∙ end.1
+
+by_status : (listing : List ℕ → Option (List ℕ)) (status : Status) (left left' written written' : Option (List ℕ)) (a b c d : ℕ) (input : List ℕ) →
+    left ≡ Some input → Leaves listing status left left' written written' → Counts status a b c d → (outcome listing input).status ≡ Done →
+    (Rose a b → ⊥) → (Rose c d → ⊥) → (status ≡ Done) ⊎ (status ≡ NoMemory)
+by_status listing Done left left' written written' a b c d input e h k good no_read no_write = inl refl
+by_status listing NoMemory left left' written written' a b c d input e h k good no_read no_write = inr refl
+by_status listing (BadLine line reason) left left' written written' a b c d input e h k good no_read no_write =
+    absurd (let same = decided listing left' input h.read _ (rw e at h.consumed) h.fits in let other : BadLine line reason ≡ Done = sym (ap (λ o. o.status) same) ∙ good in cc)
+by_status listing TooLong left left' written written' a b c d input e h k good no_read no_write =
+    absurd (let same = decided listing left' input h.read _ (rw e at h.consumed) h.fits in let other : TooLong ≡ Done = sym (ap (λ o. o.status) same) ∙ good in cc)
+by_status listing ReadFault left left' written written' a b c d input e h k good no_read no_write = absurd (no_read k.0)
+by_status listing WriteFault left left' written written' a b c d input e h k good no_read no_write = absurd (no_write k.1)
+by_status listing Usage left left' written written' a b c d input e h k good no_read no_write = absurd h.fits
+by_status listing DiskFault left left' written written' a b c d input e h k good no_read no_write = absurd h.fits
+by_status listing (DiskRefused reason) left left' written written' a b c d input e h k good no_read no_write = absurd h.fits
+by_status listing (Worn generation) left left' written written' a b c d input e h k good no_read no_write = absurd h.fits
+
+pub completes : (listing : List ℕ → Option (List ℕ)) (status : Status) (left left' written written' : Option (List ℕ)) (a b c d : ℕ) →
+    Leaves listing status left left' written written' → Counts status a b c d → Completes listing status left a b c d
+completes listing status left left' written written' a b c d h k = λ input e good no_read no_write.
+    by_status listing status left left' written written' a b c d input e h k good no_read no_write
+
+format_by : (status : Status) (size : ℕ) (image : Option (List ℕ)) (before after since : List ℕ → Type 0) (a b : ℕ) (d : List ℕ) →
+    FormatLeaves status size image before after since → DiskCount status a b → 204800 ≤ size → image ≡ Some d → (IsBegun d → ⊥) → (Rose a b → ⊥) → status ≡ Done
+format_by Done size image before after since a b d h k room e fresh none = refl
+format_by (DiskRefused DiskShort) size image before after since a b d h k room e fresh none = absurd (omega (arith, h, room))
+format_by (DiskRefused AlreadyFormatted) size image before after since a b d h k room e fresh none = absurd (fresh (h.1 d e))
+format_by (DiskRefused NotFormatted) size image before after since a b d h k room e fresh none = absurd h
+format_by (DiskRefused (SlotForm slot)) size image before after since a b d h k room e fresh none = absurd h
+format_by DiskFault size image before after since a b d h k room e fresh none = absurd (none k)
+format_by (BadLine line reason) size image before after since a b d h k room e fresh none = absurd h
+format_by Usage size image before after since a b d h k room e fresh none = absurd h
+format_by ReadFault size image before after since a b d h k room e fresh none = absurd h
+format_by WriteFault size image before after since a b d h k room e fresh none = absurd h
+format_by NoMemory size image before after since a b d h k room e fresh none = absurd h
+format_by (Worn generation) size image before after since a b d h k room e fresh none = absurd h
+format_by TooLong size image before after since a b d h k room e fresh none = absurd h
+
+pub format_completes : (status : Status) (size : ℕ) (image : Option (List ℕ)) (before after since : List ℕ → Type 0) (a b : ℕ) →
+    FormatLeaves status size image before after since → DiskCount status a b → FormatCompletes status size image a b
+format_completes status size image before after since a b h k = λ room d e fresh none. format_by status size image before after since a b d h k room e fresh none
