@@ -51,41 +51,42 @@ fn frames(rt: HostRuntime) -> Result<(), Fail> {
 }
 
 // Each variant of a command, and octets that are none.
+const COMMANDS: [(&str, &str); 12] = [
+    (
+        "E00285F2C0C1C2C3C4C5C6C7C8C9CACBCCCDCECF1112131405000000040420212223",
+        r#"{"application":4,"clusters":null,"commands":"20212223","counter":5,"device":2,"extended":242,"key":"C0C1C2C3C4C5C6C7C8C9CACBCCCDCECF","key_mic":"11121314","kind":"Commissioning","manufacturer":null,"model":null,"options":133,"rest":""}"#,
+    ),
+    (
+        "E002040B34127856110101060055",
+        r#"{"application":11,"clusters":"1101010600","commands":null,"counter":null,"device":2,"extended":null,"key":null,"key_mic":null,"kind":"Commissioning","manufacturer":"1234","model":"5678","options":4,"rest":"55"}"#,
+    ),
+    (
+        "F0573412C0C1C2C3C4C5C6C7C8C9CACBCCCDCECF1112131405000000",
+        r#"{"counter":5,"key":"C0C1C2C3C4C5C6C7C8C9CACBCCCDCECF","key_mic":"11121314","kind":"Reply","options":87,"pan":"1234","rest":""}"#,
+    ),
+    ("30", r#"{"id":48,"kind":"Move","rate":null,"rest":""}"#),
+    ("31FF", r#"{"id":49,"kind":"Move","rate":255,"rest":""}"#),
+    (
+        "32100A01",
+        r#"{"id":50,"kind":"Step","rest":"","size":16,"time":266}"#,
+    ),
+    (
+        "3210AB",
+        r#"{"id":50,"kind":"Step","rest":"AB","size":16,"time":null}"#,
+    ),
+    ("6905", r#"{"id":105,"kind":"Vector","rest":"","value":5}"#),
+    (
+        "A002040000290A00",
+        r#"{"cluster":"0402","kind":"Report","records":"0000290A00"}"#,
+    ),
+    ("F31B", r#"{"kind":"ChannelConfig","rest":"","value":27}"#),
+    ("0155", r#"{"id":1,"kind":"Other","rest":"55"}"#),
+    ("32", "null"),
+];
+
 #[test]
 fn commands(rt: HostRuntime) -> Result<(), Fail> {
-    let cases = [
-        (
-            "E00285F2C0C1C2C3C4C5C6C7C8C9CACBCCCDCECF1112131405000000040420212223",
-            r#"{"application":4,"clusters":null,"commands":"20212223","counter":5,"device":2,"extended":242,"key":"C0C1C2C3C4C5C6C7C8C9CACBCCCDCECF","key_mic":"11121314","kind":"Commissioning","manufacturer":null,"model":null,"options":133,"rest":""}"#,
-        ),
-        (
-            "E002040B34127856110101060055",
-            r#"{"application":11,"clusters":"1101010600","commands":null,"counter":null,"device":2,"extended":null,"key":null,"key_mic":null,"kind":"Commissioning","manufacturer":"1234","model":"5678","options":4,"rest":"55"}"#,
-        ),
-        (
-            "F0573412C0C1C2C3C4C5C6C7C8C9CACBCCCDCECF1112131405000000",
-            r#"{"counter":5,"key":"C0C1C2C3C4C5C6C7C8C9CACBCCCDCECF","key_mic":"11121314","kind":"Reply","options":87,"pan":"1234","rest":""}"#,
-        ),
-        ("30", r#"{"id":48,"kind":"Move","rate":null,"rest":""}"#),
-        ("31FF", r#"{"id":49,"kind":"Move","rate":255,"rest":""}"#),
-        (
-            "32100A01",
-            r#"{"id":50,"kind":"Step","rest":"","size":16,"time":266}"#,
-        ),
-        (
-            "3210AB",
-            r#"{"id":50,"kind":"Step","rest":"AB","size":16,"time":null}"#,
-        ),
-        ("6905", r#"{"id":105,"kind":"Vector","rest":"","value":5}"#),
-        (
-            "A002040000290A00",
-            r#"{"cluster":"0402","kind":"Report","records":"0000290A00"}"#,
-        ),
-        ("F31B", r#"{"kind":"ChannelConfig","rest":"","value":27}"#),
-        ("0155", r#"{"id":1,"kind":"Other","rest":"55"}"#),
-        ("32", "null"),
-    ];
-    for (body, command) in cases {
+    for (body, command) in COMMANDS {
         let line = format!(in rt.alloc(); "{FRAME}{body}")?;
         let before = r#"{"auto":false,"body":""#;
         let after =
