@@ -1,9 +1,7 @@
 //! The words of the command line.
 
-ghost use Rattle.std.specs.Prelude.{◌≡◌, ◌/◌, Some, None, length, codes, if◌then◌else◌};
-ghost use Rattle.std.specs.Result.{result_ok};
+ghost use Rattle.std.specs.Prelude.{◌≡◌, codes};
 ghost use Rattle.std.specs.Str.{bytes_eq};
-ghost use Rattle.hex.specs.Hex.{decode_of};
 ghost use Rattle.gp_app.specs.Command as spec;
 ghost use Rattle.gp_app.specs.Command.{command_of, key_of};
 
@@ -91,16 +89,8 @@ fn read_key(digits: &[u8]) -> Option<Key>
         return None;
     }
     let mut octets = [0u8; 16];
-    if !decode_digits(digits, &mut octets) {
-        return None;
+    match hex::decode_to_slice(digits, &mut octets) {
+        Ok(()) => Some(Key(octets)),
+        Err(_) => None,
     }
-    Some(Key(octets))
-}
-
-// Writes the octets that the digits name. It is `false` exactly where they name none.
-fn decode_digits(digits: &[u8], octets: &mut [u8]) -> bool
-    requires { length octets.old ≡ length digits.now / 2 }
-    ensures { result_ok (decode_of digits.now) ≡ (if result then Some octets.new else None) }
-{
-    hex::decode_to_slice(digits, octets).is_ok()
 }
