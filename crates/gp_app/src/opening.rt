@@ -1,8 +1,8 @@
 //! What a key tells of a frame.
 
 ghost use Rattle.std.specs.Prelude.{◌≡◌, ◌<◌, ◌≤◌, length};
-ghost use Rattle.gp_frames.specs.Frame.{level_of};
-ghost use Rattle.gp_security.specs.Protection.{IsCarried, opened};
+ghost use Rattle.gp_frames.specs.Frame.{IsCarried, level_of};
+ghost use Rattle.gp_security.specs.Protection.{opened};
 ghost use Rattle.gp_app.specs.Listing.{tag_word};
 ghost use Rattle.gp_app.specs.Opening as words;
 ghost use Rattle.gp_app.specs.Opening.{by_mic, opening, shown_body};

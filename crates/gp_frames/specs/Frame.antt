@@ -78,3 +78,7 @@ pub record Frame (mpdu : Mpdu) (octets : List ℕ) : Type 0 where
 -- some octets spell the value
 abbrev pub IsValid : Mpdu → Type 0
 IsValid mpdu = (octets : List ℕ) × Frame mpdu octets
+
+-- a valid MPDU carries the frame
+abbrev pub IsCarried : Gpdf → Type 0
+IsCarried frame = (mpdu : Mpdu) × (mpdu.frame ≡ frame) × IsValid mpdu

@@ -8,8 +8,7 @@ use Rattle.gp_base.specs.Field.{octet, optional}
 use Rattle.gp_frames.specs.declared.frame.Ext.{Ext}
 use Rattle.gp_frames.specs.declared.frame.Gpdf.{Gpdf}
 use Rattle.gp_frames.specs.declared.frame.Mpdu.{Mpdu}
-use Rattle.gp_frames.specs.Frame.{IsFrame, Frame, extension, is_secured, level_of, spelling}
-use Rattle.gp_security.specs.Protection.{IsCarried}
+use Rattle.gp_frames.specs.Frame.{IsCarried, IsFrame, Frame, extension, is_secured, level_of, spelling}
 
 pub carried-secured : (f : Gpdf) → 2 ≤ level_of f → IsTrue (is_secured f)
 carried-secured f h = lt-ltb 1 (level_of f) h

@@ -17,7 +17,7 @@ use Rattle.gp_cluster.specs.Message.{HasWidths, body, control, fields_agree, spe
 use Rattle.gp_cluster.specs.Notified.{HasNoticeWidths, notice, notice_agrees}
 use Rattle.gp_cluster.specs.Options.{has_failed, notice_level}
 use Rattle.gp_security.specs.Notice.{IsReceived, frame_in, has_frame, payload_of, rebuilt}
-use Rattle.gp_security.specs.Protection.{IsCarried}
+use Rattle.gp_frames.specs.Frame.{IsCarried}
 use Rattle.gp_security.proofs.Valid.{IsSecured, valid_of}
 
 both : (x y : Bool) → (x && y) ≡ true → (x ≡ true) × (y ≡ true)

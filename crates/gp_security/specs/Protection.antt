@@ -7,7 +7,7 @@ use Rattle.gp_base.specs.Field.{joined, octet}
 use Rattle.gp_ccm.specs.Ccm.{ccm, cipher_calls, encrypted}
 use Rattle.gp_frames.specs.declared.frame.Gpdf.{Gpdf}
 use Rattle.gp_frames.specs.declared.frame.Mpdu.{Mpdu}
-use Rattle.gp_frames.specs.Frame.{IsValid, header, is_secured, level_of}
+use Rattle.gp_frames.specs.Frame.{header, is_secured, level_of}
 
 -- a nonce: three numbers of four octets, and 05
 abbrev pub nonce : ℕ → ℕ → ℕ → List ℕ
@@ -60,10 +60,6 @@ opened key frame =
 -- how often the block cipher is called for so protected a command
 abbrev pub frame_calls : Gpdf → List ℕ → ℕ
 frame_calls frame command = cipher_calls (authenticated frame command) (message frame command)
-
--- a valid MPDU carries the frame
-abbrev pub IsCarried : Gpdf → Type 0
-IsCarried frame = (mpdu : Mpdu) × (mpdu.frame ≡ frame) × IsValid mpdu
 
 -- The head of a frame that can be sealed: a data frame at level 2 or 3 with SrcID and counter.
 pub record IsHead (frame : Gpdf) : Type 0 where

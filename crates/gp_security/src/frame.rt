@@ -4,9 +4,9 @@ ghost use Rattle.std.specs.Prelude.{◌≡◌, ◌+◌, ◌<◌, ◌≤◌, ◌^
 ghost use Rattle.std.specs.Option.{option_map_or};
 ghost use Rattle.std.specs.Result.{OkIff, result_ok};
 ghost use Rattle.gp_base.specs.Field.{IsOctets};
-ghost use Rattle.gp_frames.specs.Frame.{IsValid, level_of};
+ghost use Rattle.gp_frames.specs.Frame.{IsCarried, IsValid, level_of};
 ghost use Rattle.gp_security.specs.Protection as words;
-ghost use Rattle.gp_security.specs.Protection.{Good, IsCarried, IsHead, protected, opened, frame_calls, with_body, in_clear};
+ghost use Rattle.gp_security.specs.Protection.{Good, IsHead, protected, opened, frame_calls, with_body, in_clear};
 
 use crate::nonce::{mic_of, nonce};
 use gp_base::field::add;

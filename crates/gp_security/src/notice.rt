@@ -1,9 +1,9 @@
 //! The secured frame that a Commissioning Notification reports.
 
 ghost use Rattle.std.specs.Prelude.{◌≡◌, ◌≤◌, ◌∷◌, length, IfSome};
+ghost use Rattle.gp_frames.specs.Frame.{IsCarried};
 ghost use Rattle.gp_security.specs.Notice as words;
 ghost use Rattle.gp_security.specs.Notice.{IsReceived, rebuilt};
-ghost use Rattle.gp_security.specs.Protection.{IsCarried};
 
 use gp_base::Octets;
 use gp_base::field::add;
