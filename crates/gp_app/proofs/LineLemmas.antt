@@ -59,13 +59,16 @@ length-strip line = elim (eqb (get_or line (length line - 1) 0) 13) as (λ b. le
   | false ↦ omega arith
 ]
 
--- and none from a line that doesn't end with CR
-pub strip-none : (line : List ℕ) → eqb (get_or line (length line - 1) 0) 13 ≡ false → strip_carriage_return line ≡ line
-strip-none line h = rw h refl
+-- and adds none
+pub strip-le : (line : List ℕ) → length (strip_carriage_return line) ≤ length line
+strip-le line = elim (eqb (get_or line (length line - 1) 0) 13) as (λ b. length (cond b (take (length line - 1) line) line) ≤ length line) [
+  | true ↦ omega (arith, length-take (length line - 1) line)
+  | false ↦ omega arith
+]
 
--- a line that is as wide as it may be with its CR, and has none, or is wider still
+-- a line that is too wide without the CR at its end
 abbrev pub IsTooWide : List ℕ → Type 0
-IsTooWide line = (1025 < length line) ⊎ ((length line ≡ 1025) × (eqb (get_or line 1024 0) 13 ≡ false))
+IsTooWide line = 1024 < length (strip_carriage_return line)
 
 -- Where such a line has begun, the first line is too wide, whatever comes after it.
 abbrev pub FirstIs : (List ℕ → Type 0) → List (List ℕ) → Type 0
@@ -84,18 +87,12 @@ first_of-begun line rest none some = elim (first_end rest) [
 ]
 
 wide_stripped : (line front : List ℕ) → IsTooWide line → 1024 < length (strip_carriage_return (line ++ front))
-wide_stripped line [] (inl wide) = rw (append-nil line) (omega (arith, length-strip line, wide))
-wide_stripped line (octet ∷ front) (inl wide) = omega (arith, length-strip (line ++ octet ∷ front), length-append line (octet ∷ front), wide)
-wide_stripped line [] (inr wide) = rw (append-nil line, strip-none line (rw wide.0 wide.1)) (omega (arith, wide.0))
-wide_stripped line (octet ∷ front) (inr wide) = omega (arith, length-strip (line ++ octet ∷ front), length-append line (octet ∷ front), wide.0)
-
-wide_enough : (line : List ℕ) → IsTooWide line → 1024 < length line
-wide_enough line (inl wide) = omega arith
-wide_enough line (inr wide) = omega (arith, wide.0)
+wide_stripped line [] wide = rw (append-nil line) wide
+wide_stripped line (octet ∷ front) wide = omega (arith, length-strip (line ++ octet ∷ front), length-append line (octet ∷ front), strip-le line, wide)
 
 pub first_of-wide : (line rest : List ℕ) → HasNoEnd line → IsTooWide line → FirstIs (λ first. 1024 < length first) (lines (line ++ rest))
 first_of-wide line rest none wide =
-    let enough = wide_enough line wide in
+    let enough : 1024 < length line = omega (arith, strip-le line, wide) in
     elim (first_end rest) [
       | inl endless ↦ (line ++ rest, [], lines-last (line ++ rest) (HasNoEnd-append line rest none endless) (omega (arith, length-append line rest)), omega (arith, length-append line rest))
       | inr found ↦ (strip_carriage_return (line ++ found.0), lines found.1, ap (λ (xs : List ℕ). lines (line ++ xs)) found.2 ∙ ap lines (sym (append_assoc line found.0 (10 ∷ found.1))) ∙ lines-append-end (line ++ found.0) found.1 (HasNoEnd-append line found.0 none found.3), wide_stripped line found.0 wide)

@@ -1,16 +1,19 @@
 -- What has been read and written so far, and what each way to end leaves.
-use Rattle.std.proofs.Common.{◌≡◌, ℕ, suc, ◌+◌, ◌⊎◌, inl, inr, true, false, ◌||◌, List, [], ◌∷◌, ◌++◌, take, drop, Option, Some, None, refl, sym, ap, subst, ◌∙◌, append_assoc, arith}
+use Rattle.std.proofs.Common.{◌≡◌, ℕ, suc, ◌+◌, ◌⊎◌, inl, inr, true, false, ◌||◌, ◌<◌, ◌≤◌, eqb, false, List, [], ◌∷◌, ◌++◌, length, replicate, take, drop, Option, Some, None, refl, sym, ap, subst, ◌∙◌, append_assoc, arith}
 use Rattle.std.specs.Io.KnownBytes.{Appends, Consumes, Keeps, IsAtEnd}
 use Rattle.std.specs.List.{list_any}
-use Rattle.std.specs.Str.Lines.{lines}
-use Rattle.std.proofs.lemmas.List.{append-nil, take-append-drop}
+use Rattle.std.specs.Str.Lines.{lines, strip_carriage_return}
+use Rattle.std.proofs.lemmas.List.{append-nil, length-append, length-replicate, take-append-drop}
+use Rattle.std.proofs.lemmas.List.Elements.{All-replicate}
+use Rattle.std.proofs.lemmas.Bool.{le-ltb}
 use Rattle.gp_app.specs.declared.status.Status.{Status}
 use Rattle.gp_app.specs.declared.status.Status.TheVariants.{Done, BadLine, Usage, ReadFault, WriteFault, DiskFault, NoMemory, DiskRefused, Worn, TooLong}
-use Rattle.gp_app.specs.Outcome.{Outcome, after, outcome_of, outcome, complete}
-use Rattle.gp_app.specs.Stream.{HasNoEnd, AreWhole, Takes, Stops, Ends, Grows, IsStop}
+use Rattle.gp_app.specs.Outcome.{Outcome, after, then_lines, outcome_of, outcome, complete}
+use Rattle.gp_app.specs.Stream.{HasNoEnd, MayGoOn, AreWhole, Takes, Stops, Ends, Grows, IsStop}
 use Rattle.gp_app.specs.Leaves.{IsFront, Decides, Fits, Leaves, Counts, Says, SaysOr}
 use Rattle.gp_app.proofs.Streams.{Appends-then, Appends-nothing}
-use Rattle.gp_app.proofs.LineLemmas.{is_end, HasNoEnd-nil}
+use Rattle.gp_app.proofs.LineLemmas.{is_end, HasNoEnd-nil, HasNoEnd-append, lines-last, lines-append-end}
+use Rattle.gp_app.proofs.Outcomes.{outcome_of-wide}
 use Rattle.gp_app.proofs.Taking.{Takes-nothing, Takes-then, Takes-going, IsStop-map}
 
 Consumes-nothing : (known : Option (List ℕ)) → Consumes known known []
@@ -60,6 +63,46 @@ front_of : (a b : List ℕ) (rest : List ℕ) (text : List ℕ) → text ≡ (a 
 front_of a b rest text is count =
     (drop count b ++ rest, is ∙ ap (λ (xs : List ℕ). (a ++ xs) ++ rest) (sym (take-append-drop count b)) ∙ ap (λ (xs : List ℕ). xs ++ rest) (sym (append_assoc a (take count b) (drop count b))) ∙ append_assoc (a ++ take count b) (drop count b) rest)
 
+-- ---- what comes after a line that may go on counts
+
+-- more octets than a line may have, none of them LF
+too_many : List ℕ
+too_many = replicate 1025 0
+
+too_many-length : length too_many ≡ 1025
+unfolding too_many
+too_many-length = length-replicate {A = ℕ} 1025 0
+
+too_many-end : HasNoEnd too_many
+unfolding too_many
+too_many-end = All-replicate (λ octet. eqb octet 10 ≡ false) 1025 0 refl
+
+module _ (listing : List ℕ → Option (List ℕ)) (n : ℕ) (begun : List ℕ) where
+  -- with them it is too wide
+  widened : HasNoEnd begun → (outcome_of listing (n + 1) (lines (begun ++ too_many))).status ≡ TooLong
+  widened none =
+      let long : 1024 < length (begun ++ too_many) = omega (arith, length-append begun too_many, too_many-length) in
+      ap (λ ls. (outcome_of listing (n + 1) ls).status) (lines-last (begun ++ too_many) (HasNoEnd-append begun too_many none too_many-end) (omega (arith, long)))
+      ∙ ap (λ (o : Outcome). o.status) (outcome_of-wide listing (n + 1) (begun ++ too_many) [] long)
+
+  -- a line within the limits isn't
+  within : (line : List ℕ) → n < 1000000 → length line ≤ 1024 → (outcome_of listing (n + 1) (line ∷ [])).status ≡ TooLong → ⊥
+  unfolding outcome_of
+  within line few narrow = rw (le-ltb 1000000 (n + 1) (omega arith), le-ltb 1024 (length line) narrow) (elim (listing line) as (λ found. (then_lines found (n + 1) (record { text = []; status = Done })).status ≡ TooLong → ⊥) [ None ↦ λ e. cc | Some text ↦ λ e. cc ])
+
+  -- so nothing settles what comes of it
+  not_settled : (told : List ℕ) → HasNoEnd begun → MayGoOn n begun → (settled : Outcome) → ((rest : List ℕ) → after told (outcome_of listing (n + 1) (lines (begun ++ rest))) ≡ settled) → ⊥
+  unfolding outcome_of
+  not_settled told none (inl fresh) settled settles =
+      let long = sym (widened none) ∙ ap (λ (o : Outcome). o.status) (settles too_many) in
+      let short : Done ≡ settled.status = ap (λ (o : Outcome). o.status) (rw fresh at settles []) in
+      let other : Done ≡ TooLong = short ∙ sym long in
+      cc
+  not_settled told none (inr narrow) settled settles =
+      let long = sym (widened none) ∙ ap (λ (o : Outcome). o.status) (settles too_many) in
+      let short = ap (λ (ls : List (List ℕ)). (outcome_of listing (n + 1) ls).status) (sym (lines-append-end begun [] none)) ∙ ap (λ (o : Outcome). o.status) (settles (10 ∷ [])) in
+      within (strip_carriage_return begun) narrow.0 narrow.1 (short ∙ sym long)
+
 module _ (listing : List ℕ → Option (List ℕ)) where
   -- these octets were read and this text was written for the lines that they end
   pub record Reads (left_before left_now written_before written_now : Option (List ℕ)) (n : ℕ) (begun : List ℕ) : Type 0 where
@@ -85,15 +128,17 @@ module _ (listing : List ℕ → Option (List ℕ)) where
   }
 
   -- a read failed
-  pub leaves_read_fault : (left left' left'' written written' : Option (List ℕ)) (n : ℕ) (begun : List ℕ) → Reads left left' written written' n begun → Keeps left' left'' → Leaves listing ReadFault left left'' written written'
-  leaves_read_fault left left' left'' written written' n begun h keeps = record {
+  pub leaves_read_fault : (left left' left'' written written' : Option (List ℕ)) (n : ℕ) (begun : List ℕ) → Reads left left' written written' n begun → MayGoOn n begun → Keeps left' left'' → Leaves listing ReadFault left left'' written written'
+  leaves_read_fault left left' left'' written written' n begun h goes_on keeps = record {
     read = h.read;
     written = h.told;
     consumed = Consumes-kept left left' left'' h.read h.consumed keeps;
     appended = h.appended;
     fits =
-        let is : complete h.read ≡ h.taken.whole = ap complete h.taken.parts ∙ complete-whole h.taken.whole begun h.taken.are_whole h.taken.begun in
-        ap (outcome listing) is ∙ ap (λ (xs : List ℕ). outcome listing xs) (sym (append-nil h.taken.whole)) ∙ h.taken.going [] ∙ ended listing n h.told;
+        let is : complete h.read ≡ h.taken.whole = ap complete h.taken.parts ∙ complete-whole h.taken.whole begun h.taken.are_whole h.taken.begun in (
+          ap (outcome listing) is ∙ ap (λ (xs : List ℕ). outcome listing xs) (sym (append-nil h.taken.whole)) ∙ h.taken.going [] ∙ ended listing n h.told,
+          λ settled settles. not_settled listing n begun h.told h.taken.begun goes_on settled (λ rest. sym (Takes-going listing 0 [] h.read n begun h.told rest h.taken) ∙ settles rest),
+        );
   }
 
   -- the outcome of what was read with a piece that was taken, of one that stops, and of nothing more

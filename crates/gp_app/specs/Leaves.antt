@@ -10,17 +10,25 @@ use Rattle.gp_app.specs.Outcome.{Outcome, outcome, complete}
 abbrev pub IsFront : List ℕ → List ℕ → Type 0
 IsFront front text = (rest : List ℕ) × (text ≡ front ++ rest)
 
--- the octets that were read decide the outcome: whatever would come after them, or since none is left
+-- the octets that were read settle the outcome, whatever would come after them
+abbrev pub Settles : (List ℕ → Option (List ℕ)) → List ℕ → Outcome → Type 0
+Settles listing read settled = (rest : List ℕ) → outcome listing (read ++ rest) ≡ settled
+
+-- the octets that were read decide the outcome: they settle it, or none is left
 abbrev pub Decides : (List ℕ → Option (List ℕ)) → Option (List ℕ) → List ℕ → Outcome → Type 0
-Decides listing left read decided =
-    ((rest : List ℕ) → outcome listing (read ++ rest) ≡ decided) ⊎ (IsAtEnd left × (outcome listing read ≡ decided))
+Decides listing left read decided = Settles listing read decided ⊎ (IsAtEnd left × (outcome listing read ≡ decided))
+
+-- Every line that stands complete is listed, and what would come after the octets that were read counts.
+abbrev pub IsOpen : (List ℕ → Option (List ℕ)) → List ℕ → List ℕ → Type 0
+IsOpen listing read written =
+    (outcome listing (complete read) ≡ record { text = written; status = Done }) × ((settled : Outcome) → Settles listing read settled → ⊥)
 
 -- what was written, by the status: of what was read, and of what is left
 abbrev pub Fits : (List ℕ → Option (List ℕ)) → Status → Option (List ℕ) → List ℕ → List ℕ → Type 0
 Fits listing Done left read written = IsAtEnd left × (outcome listing read ≡ record { text = written; status = Done })
 Fits listing (BadLine line reason) left read written = Decides listing left read (record { text = written; status = BadLine line reason })
 Fits listing TooLong left read written = Decides listing left read (record { text = written; status = TooLong })
-Fits listing ReadFault left read written = outcome listing (complete read) ≡ record { text = written; status = Done }
+Fits listing ReadFault left read written = IsOpen listing read written
 Fits listing WriteFault left read written = IsFront written (outcome listing read).text
 Fits listing NoMemory left read written = IsFront written (outcome listing read).text
 Fits listing Usage left read written = ⊥

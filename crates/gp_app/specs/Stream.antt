@@ -1,6 +1,6 @@
 -- An input that comes in pieces: what a piece makes of the lines so far.
-use Rattle.std.specs.Prelude.{◌≡◌, ℕ, ◌+◌, ◌-◌, ◌*◌, ◌⊎◌, ◌==◌, false, List, [], ◌∷◌, ◌++◌, length, Option, All}
-use Rattle.std.specs.Str.Lines.{lines}
+use Rattle.std.specs.Prelude.{◌≡◌, ℕ, ◌+◌, ◌-◌, ◌*◌, ◌<◌, ◌≤◌, ◌⊎◌, ◌==◌, false, List, [], ◌∷◌, ◌++◌, length, Option, All}
+use Rattle.std.specs.Str.Lines.{lines, strip_carriage_return}
 use Rattle.gp_app.specs.declared.status.Status.{Status}
 use Rattle.gp_app.specs.declared.status.Status.TheVariants.{Done, BadLine, Usage, ReadFault, WriteFault, DiskFault, NoMemory, DiskRefused, Worn, TooLong}
 use Rattle.gp_app.specs.Outcome.{Outcome, after, outcome_of}
@@ -29,6 +29,10 @@ Stops listing lines_before begun octets outcome = (rest : List ℕ) → outcome_
 -- From there nothing more comes, and that decides the outcome.
 abbrev pub Ends : (List ℕ → Option (List ℕ)) → ℕ → List ℕ → Outcome → Type 0
 Ends listing lines_before begun outcome = outcome_of listing (lines_before + 1) (lines begun) ≡ outcome
+
+-- No line has begun, or one that is none too many and isn't too wide yet.
+abbrev pub MayGoOn : ℕ → List ℕ → Type 0
+MayGoOn lines_before begun = (begun ≡ []) ⊎ ((lines_before < 1000000) × (length (strip_carriage_return begun) ≤ 1024))
 
 -- how much more may come under the limits of lines and width
 abbrev pub room : ℕ → List ℕ → ℕ

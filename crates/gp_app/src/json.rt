@@ -195,8 +195,7 @@ fn put_tag(
 {
     match told {
         Opening::Untold => put_null(alloc, map, key),
-        Opening::Bad => put_text(alloc, map, key, told.tag()),
-        Opening::Good(_) => put_text(alloc, map, key, told.tag()),
+        Opening::Bad | Opening::Good(_) => put_text(alloc, map, key, told.tag()),
     }
 }
 

@@ -1,12 +1,12 @@
 //! Lines, in whatever pieces they come.
 
-ghost use Rattle.std.specs.Prelude.{◌≡◌, ◌+◌, ◌<◌, ◌≤◌, ◌↔◌, ◌==◌, false, [], ◌∷◌, ◌++◌, List, ℕ, length, take, slice_index, IsTrue, IfErr, IfSome, IfNone, OnOk, OnErr, if◌then◌else◌};
+ghost use Rattle.std.specs.Prelude.{◌≡◌, ◌+◌, ◌<◌, ◌≤◌, ◌↔◌, [], ◌∷◌, ◌++◌, List, ℕ, length, take, IsTrue, IfErr, IfSome, IfNone, OnOk, OnErr, if◌then◌else◌};
 ghost use Rattle.std.specs.Str.Lines.{lines, strip_carriage_return};
 ghost use Rattle.std.specs.Io.KnownBytes.{Appends};
 ghost use Rattle.gp_base.specs.Outside.{Rose};
 ghost use Rattle.gp_app.specs.Form.{listing_of};
 ghost use Rattle.gp_app.specs.Outcome.{after, outcome_of};
-ghost use Rattle.gp_app.specs.Stream.{HasNoEnd, Takes, Stops, Ends, Grows, IsStop, room};
+ghost use Rattle.gp_app.specs.Stream.{HasNoEnd, MayGoOn, Takes, Stops, Ends, Grows, IsStop, room};
 
 use crate::form::{ListingForm, push_form};
 use crate::listing::Unlisted;
@@ -193,10 +193,12 @@ impl Progress {
     fn begin_line(&mut self, form: ListingForm, more: &[u8]) -> Result<(), Status>
         requires begun { HasNoEnd self.old.begun.items }
         requires more { HasNoEnd more.now }
+        requires goes_on { MayGoOn self.old.lines self.old.begun.items }
         ensures ok { OnOk result (Grows self.old.text.items self.new.text.items (Takes (listing_of form) self.old.lines
             self.old.begun.items more.now self.new.lines self.new.begun.items)) }
         ensures begun { OnOk result (self.new.begun.items ≡ self.old.begun.items ++ more.now) }
         ensures fits { OnOk result (0 < length more.now → length self.new.begun.items ≤ 1025) }
+        ensures goes_on { OnOk result (MayGoOn self.new.lines self.new.begun.items) }
         ensures lines { self.new.lines ≡ self.old.lines }
         ensures err { IfErr result (λ status. IsStop status self.old.text.items self.new.text.items
             (Stops (listing_of form) self.old.lines self.old.begun.items more.now)) }
@@ -225,10 +227,12 @@ impl Progress {
     ) -> Result<(), Status>
         requires begun { HasNoEnd self.old.begun.items }
         requires few { self.old.lines ≤ 1000000 }
+        requires goes_on { MayGoOn self.old.lines self.old.begun.items }
         ensures ok { OnOk result (Grows self.old.text.items self.new.text.items (Takes (listing_of form) self.old.lines
             self.old.begun.items piece.now self.new.lines self.new.begun.items)) }
         ensures begun { OnOk result (HasNoEnd self.new.begun.items) }
         ensures few { OnOk result (self.new.lines ≤ 1000000) }
+        ensures goes_on { OnOk result (MayGoOn self.new.lines self.new.begun.items) }
         ensures nearer { OnOk result (0 < length piece.now → room self.new.lines self.new.begun.items < room self.old.lines self.old.begun.items) }
         ensures err { IfErr result (λ status. IsStop status self.old.text.items self.new.text.items
             (Stops (listing_of form) self.old.lines self.old.begun.items piece.now)) }
@@ -288,10 +292,9 @@ impl Progress {
     }
 }
 
-// Whether a line that has begun is too wide, whatever comes after it: it is full, and not by a CR.
+// Whether a line that has begun is too wide, whatever comes after it: a CR at its end aside, which an LF may follow.
 fn is_too_wide(begun: &[u8]) -> bool
-    requires { length begun.now ≤ 1025 }
-    ensures { IsTrue result → (length begun.now ≡ 1025) × ((slice_index begun.now 1024 == 13) ≡ false) }
+    ensures { IsTrue result ↔ (1024 < length (strip_carriage_return begun.now)) }
 {
-    begun.len() == 1025 && begun[1024] != b'\r'
+    without_return(begun).len() > WIDTH_LIMIT
 }

@@ -77,66 +77,78 @@ fn listings(rt: HostRuntime) -> Result<(), Fail> {
     Ok(())
 }
 
-// Words and lines that are refused, and a read and a write that fail.
+// A run in pieces of 29 octets ends with this status, and this was written until then.
+fn ends(
+    rt: &HostRuntime,
+    words: &[&str],
+    input: &str,
+    status: Status,
+    listing: &str,
+) -> Result<(), Fail> {
+    let case = Case {
+        words,
+        input: input.as_bytes(),
+        piece: 29,
+        failing_reads: &[],
+        failing_writes: &[],
+    };
+    ends_case(rt, &case, status, listing)
+}
+
+fn ends_case(rt: &HostRuntime, case: &Case, status: Status, listing: &str) -> Result<(), Fail> {
+    let (answer, written) = outcome(rt, case)?;
+    assert_eq!(rt; answer, status);
+    assert_eq!(rt; written.as_slice(), listing.as_bytes());
+    Ok(())
+}
+
+// The first line that has none of the forms.
+fn bad_line(line: u64) -> Status {
+    let reason = LineReason::Form;
+    Status::BadLine { line, reason }
+}
+
+// Words and lines that are refused.
 #[test]
-fn refusals_and_faults(rt: HostRuntime) -> Result<(), Fail> {
-    let two = format!(in rt.alloc(); "{FRAME}\n{FRAME}\n")?;
-    let wide = format!(in rt.alloc(); "{FRAME}\n{:0>1025}\n", "")?;
+fn refusals(rt: HostRuntime) -> Result<(), Fail> {
     let bad = format!(in rt.alloc(); "{FRAME}\n0G\n{FRAME}\n")?;
-    let form = LineReason::Form;
-    let none: &[u64] = &[];
-    let decode: &[&str] = &["decode"];
-    let cases: [(&[&str], &str, &[u64], &[u64], Status, &str); 8] = [
-        (&["decode", "xyz"], FRAME, none, none, Status::Usage, ""),
-        (&[], FRAME, none, none, Status::Usage, ""),
-        (
-            decode,
-            "0G",
-            none,
-            none,
-            Status::BadLine {
-                line: 1,
-                reason: form,
-            },
-            "",
-        ),
-        (
-            decode,
-            bad.as_str(),
-            none,
-            none,
-            Status::BadLine {
-                line: 2,
-                reason: form,
-            },
-            LISTING,
-        ),
-        (
-            decode,
-            "00\r",
-            none,
-            none,
-            Status::BadLine {
-                line: 1,
-                reason: form,
-            },
-            "",
-        ),
-        (decode, wide.as_str(), none, none, Status::TooLong, LISTING),
-        (decode, two.as_str(), &[1], none, Status::ReadFault, LISTING),
-        (decode, two.as_str(), none, &[0], Status::WriteFault, ""),
-    ];
-    for (words, input, failing_reads, failing_writes, status, listing) in cases {
+    let wide = format!(in rt.alloc(); "{FRAME}\n{:0>1025}\n", "")?;
+    ends(&rt, &["decode", "xyz"], FRAME, Status::Usage, "")?;
+    ends(&rt, &[], FRAME, Status::Usage, "")?;
+    ends(&rt, &["decode"], "0G", bad_line(1), "")?;
+    ends(&rt, &["decode"], bad.as_str(), bad_line(2), LISTING)?;
+    ends(&rt, &["decode"], "00\r", bad_line(1), "")?;
+    ends(&rt, &["decode"], wide.as_str(), Status::TooLong, LISTING)
+}
+
+// A read and a write that fail; and a second read that fails where the first one gave 1,025 octets without an LF, which
+// are too many where the last isn't a CR.
+#[test]
+fn faults(rt: HostRuntime) -> Result<(), Fail> {
+    let two = format!(in rt.alloc(); "{FRAME}\n{FRAME}\n")?;
+    let wide = format!(in rt.alloc(); "{:0>1025}", "")?;
+    let full = format!(in rt.alloc(); "{:0>1024}\r", "")?;
+    let read_fails = Case {
+        words: &["decode"],
+        input: two.as_bytes(),
+        piece: 29,
+        failing_reads: &[1],
+        failing_writes: &[],
+    };
+    let write_fails = Case {
+        failing_reads: &[],
+        failing_writes: &[0],
+        ..read_fails
+    };
+    ends_case(&rt, &read_fails, Status::ReadFault, LISTING)?;
+    ends_case(&rt, &write_fails, Status::WriteFault, "")?;
+    for (input, status) in [(&wide, Status::TooLong), (&full, Status::ReadFault)] {
         let case = Case {
-            words,
             input: input.as_bytes(),
-            piece: 29,
-            failing_reads,
-            failing_writes,
+            piece: 1025,
+            ..read_fails
         };
-        let (answer, written) = outcome(&rt, &case)?;
-        assert_eq!(rt; answer, status);
-        assert_eq!(rt; written.as_slice(), listing.as_bytes());
+        ends_case(&rt, &case, status, "")?;
     }
     Ok(())
 }
@@ -233,33 +245,62 @@ fn lines_ended(input: &[u8], octets: usize) -> u64 {
     ended
 }
 
-// These frames in both forms: in pieces of one octet, and with each read and each write failing in turn.
-#[test]
-fn sample_capture(rt: HostRuntime) -> Result<(), Fail> {
+// These frames as an input, a line each.
+fn capture(rt: &HostRuntime) -> Result<Vec<u8>, Fail> {
     let mut input = Vec::new(rt.alloc());
     for line in CAPTURE {
         input.extend_from_slice(line.as_bytes())?;
         input.push(b'\n')?;
     }
-    let forms: [&[&str]; 2] = [&["decode"], &["decode", "--json"]];
-    for words in forms {
-        let whole = Case {
-            words,
-            input: &input,
-            piece: 4096,
-            failing_reads: &[],
-            failing_writes: &[],
-        };
-        let (status, text) = outcome(&rt, &whole)?;
+    Ok(input)
+}
+
+// The words of both forms, the text of whose listing has 20 lines.
+const FORMS: [&[&str]; 2] = [&["decode"], &["decode", "--json"]];
+
+// A run in pieces of 16 octets.
+fn in_pieces<'a>(words: &'a [&'a str], input: &'a [u8]) -> Case<'a> {
+    Case {
+        words,
+        input,
+        piece: 16,
+        failing_reads: &[],
+        failing_writes: &[],
+    }
+}
+
+// In pieces of one octet it is listed as in large ones.
+#[test]
+fn capture_in_pieces(rt: HostRuntime) -> Result<(), Fail> {
+    let input = capture(&rt)?;
+    for words in FORMS {
+        let case = in_pieces(words, &input);
+        let (status, text) = outcome(
+            &rt,
+            &Case {
+                piece: 4096,
+                ..case
+            },
+        )?;
         assert_eq!(rt; status, Status::Done);
         assert_eq!(rt; lines_ended(&text, text.len()), 20);
-        let (status, in_ones) = outcome(&rt, &Case { piece: 1, ..whole })?;
+        let (status, in_ones) = outcome(&rt, &Case { piece: 1, ..case })?;
         assert_eq!(rt; status, Status::Done);
         assert_eq!(rt; in_ones.as_slice(), text.as_slice());
+    }
+    Ok(())
+}
+
+// Each read fails in turn: the lines that came before it are listed.
+#[test]
+fn capture_with_failing_reads(rt: HostRuntime) -> Result<(), Fail> {
+    let input = capture(&rt)?;
+    for words in FORMS {
+        let whole = in_pieces(words, &input);
+        let (_, text) = outcome(&rt, &whole)?;
         let mut taken = 0usize;
         for failing in 0..60u64 {
             let case = Case {
-                piece: 16,
                 failing_reads: &[failing],
                 ..whole
             };
@@ -273,11 +314,21 @@ fn sample_capture(rt: HostRuntime) -> Result<(), Fail> {
             }
             taken = taken.saturating_add(16);
         }
+    }
+    Ok(())
+}
+
+// Each write fails in turn: a front of the listing was written.
+#[test]
+fn capture_with_failing_writes(rt: HostRuntime) -> Result<(), Fail> {
+    let input = capture(&rt)?;
+    for words in FORMS {
+        let whole = in_pieces(words, &input);
+        let (_, text) = outcome(&rt, &whole)?;
         let mut ended = false;
         for failing in 0..600u64 {
             if !ended {
                 let case = Case {
-                    piece: 16,
                     failing_writes: &[failing],
                     ..whole
                 };

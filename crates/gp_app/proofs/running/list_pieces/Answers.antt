@@ -5,7 +5,7 @@ use Rattle.gp_app.proofs.Runs.{Reads-more, leaves_read_fault, leaves_piece_fault
 use Rattle.gp_app.proofs.running.list_pieces.Goals as goal
 
 pub returns-in_default-read-clause-leaves : goal.returns-in_default-read-clause-leaves
-returns-in_default-read-clause-leaves g c = leaves_read_fault (listing_of c.args.form) _ (g.S.Source.left c.pieces.source) _ _ (g.O.Out.written c.pieces.out) _ _ c.pieces.invariant.reads c.in_default-read.ensures.octets
+returns-in_default-read-clause-leaves g c = leaves_read_fault (listing_of c.args.form) _ (g.S.Source.left c.pieces.source) _ _ (g.O.Out.written c.pieces.out) _ _ c.pieces.invariant.reads c.pieces.invariant.goes_on c.in_default-read.ensures.octets
 
 pub returns-in-Err-clause-leaves : goal.returns-in-Err-clause-leaves
 returns-in-Err-clause-leaves g c =
@@ -29,6 +29,7 @@ pieces-preserved g c =
       text = c.in-Ok-flush.ensures.text;
       begun = rw begun c.in-Ok-take_piece.ensures.begun;
       few = rw c.in-Ok-flush.ensures.lines c.in-Ok-take_piece.ensures.few;
+      goes_on = rw (c.in-Ok-flush.ensures.lines, begun) c.in-Ok-take_piece.ensures.goes_on;
       source_faults = c.in-Ok-read.ensures.good ∙ c.pieces.invariant.source_faults;
       out_faults = c.in-Ok-flush.ensures.good ∙ c.pieces.invariant.out_faults;
     }

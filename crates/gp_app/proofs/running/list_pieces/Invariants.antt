@@ -1,6 +1,6 @@
 use Rattle.std.proofs.Common.{◌≡◌, ◌≤◌, []}
 use Rattle.gp_app.specs.Form.{listing_of}
-use Rattle.gp_app.specs.Stream.{HasNoEnd, room}
+use Rattle.gp_app.specs.Stream.{HasNoEnd, MayGoOn, room}
 use Rattle.gp_app.proofs.Runs.{Reads}
 use Rattle.gp_app.proofs.running.list_pieces.Given as goal
 
@@ -10,6 +10,7 @@ invariant-pieces g l = record {
   text : l.progress.text.items ≡ [];
   begun : HasNoEnd l.progress.begun.items;
   few : l.progress.lines ≤ 1000000;
+  goes_on : MayGoOn l.progress.lines l.progress.begun.items;
   source_faults : g.S.Source.faults l.source ≡ g.S.Source.faults l.fn.source;
   out_faults : g.O.Out.faults l.out ≡ g.O.Out.faults l.fn.out;
 }

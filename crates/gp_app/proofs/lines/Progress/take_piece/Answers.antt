@@ -1,9 +1,20 @@
-use Rattle.std.proofs.Common.{◌≡◌, ◌<◌, length, ap, arith}
+use Rattle.std.proofs.Common.{◌≡◌, ◌<◌, length, inl, ap, arith}
 use Rattle.std.proofs.lemmas.Grind.{common_steps}
 use Rattle.gp_app.specs.Form.{listing_of}
 use Rattle.gp_app.proofs.LineLemmas.{HasNoEnd-nil}
-use Rattle.gp_app.proofs.Taking.{TakesFront-line, TakesFront-stop, TakesFront-rest, TakesFront-rest_stop}
+use Rattle.gp_app.proofs.Taking.{TakesFront-start, TakesFront-line, TakesFront-stop, TakesFront-rest, TakesFront-rest_stop}
 use Rattle.gp_app.proofs.lines.Progress.take_piece.Goals as goal
+
+pub lines-init : goal.lines-init
+lines-init c = record {
+  taken = TakesFront-start (listing_of c.args.form) _ _ _ c.args.piece.now c.requires.begun;
+  begun = c.requires.begun;
+  few = c.requires.few;
+  goes_on = c.requires.goes_on;
+  shorter = omega arith;
+  no_wider = omega arith;
+  nearer = λ h. absurd (omega (arith, h));
+}
 
 pub returns-in-Err-clause-err : goal.returns-in-Err-clause-err
 returns-in-Err-clause-err c =
@@ -22,6 +33,7 @@ lines-preserved c =
           c.lines.invariant.taken c.in-Some.ensures.parts c.in-Ok.ensures.ok;
       begun = rw c.in-Ok.ensures.begun HasNoEnd-nil;
       few = few;
+      goes_on = inl c.in-Ok.ensures.begun;
       shorter = omega arith;
       no_wider = omega arith;
       nearer = λ h. omega arith;
