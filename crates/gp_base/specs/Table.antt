@@ -6,20 +6,10 @@ abbrev pub first_of : {A : Type 0} → List (Bool × A) → Option A
 first_of [] = None
 first_of (line ∷ lines) = if line.0 then Some line.1 else first_of lines
 
--- the same with a last line, which stands where no test holds
-abbrev pub by_table : {A : Type 0} → List (Bool × A) → A → A
-by_table [] last = last
-by_table (line ∷ lines) last = if line.0 then line.1 else by_table lines last
-
 -- goes on with what is there, and else gives up with this answer
 abbrev pub let_else : {A B : Type 0} → Option A → B → (A → B) → B
 let_else None otherwise rest = otherwise
 let_else (Some value) otherwise rest = rest value
-
--- goes on with what went well, and else gives up with what the error says
-abbrev pub let_ok : {A B E : Type 0} → Result A E → (E → B) → (A → B) → B
-let_ok (Ok value) otherwise rest = rest value
-let_ok (Err error) otherwise rest = otherwise error
 
 -- the reason, or where there is none the value
 abbrev pub answer : {A E : Type 0} → Option E → A → Result A E

@@ -161,7 +161,8 @@ pub fn rest(reader: &mut Reader) -> Octets
 
 // ---- added to what is spelled
 
-/// Adds octets at the end. `None`, as in all these writers, says that there is no room for them.
+/// Adds octets at the end. `None`, as in all these writers, says that there is no room for them; a front of them may then
+/// have been added.
 pub fn add(out: &mut Octets, part: &[u8]) -> Option<()>
     ensures { Adds part.now out.old out.new result }
 {

@@ -71,7 +71,9 @@ pub enum Mode {
     Unicast = 3,
 }
 
-/// The group that is derived from a SrcID (Zigbee PRO Green Power, A.3.6.1.2.1).
+/// The group that is derived from a SrcID (Zigbee PRO Green Power, A.3.6.1.2.1): its low half where that is from 0x0001
+/// to 0xFFF7, and else the low half xor the high one where that is. Else it is 7 for a low half of 0, and for another the
+/// low half minus 8.
 pub fn derived_group(source: Src) -> u16
     ensures { result ≡ derived_group_of source.0 }
 {

@@ -2,7 +2,8 @@
 //! two sides of the outside world.
 //! To the layer above, octet lists are lists of numbers, and a `Source` or an `Out` is what is left to
 //! read or was written, where it tells it, beside a count of faults that never falls. `Steps` is a count of work.
-//! The contracts cite `Outside` for those two, `Fake` for the ones in memory and `Walk` for the reader.
+//! The contracts cite `Outside` for those two, `Fake` for the ones in memory, `Walk` for the reader, `Field` for the
+//! fields of a grammar and `Identity` for identifiers; `Table` serves the definitions of grammars.
 #![tactic(auto)]
 
 pub mod field;

@@ -75,6 +75,7 @@ impl Source for MemorySource {
         ensures variant { IsErr result ↔ IsTrue (is_listed self.old.failing self.old.calls) }
         ensures count { IfOk result (λ count. count ≡ read_count self.old (length into.old)) }
         ensures given { IfOk result (λ count. into.new ≡ take count self.old.left ++ drop count into.old) }
+        ensures nothing_given { OnErr result (into.new ≡ into.old) }
         ensures after { IfOk result (λ count. self.new ≡ after_read self.old count) }
         ensures after_failure { OnErr result (self.new ≡ after_failed_read self.old) }
     {

@@ -24,9 +24,6 @@ impl Model for Octets {
 }
 
 impl Octets {
-    /// The greatest number of octets.
-    pub const LIMIT: usize = 127;
-
     /// The empty list.
     pub fn new() -> Octets
         ensures { result ≡ [] }

@@ -6,8 +6,8 @@ use std::sync::ledger::{Blank, Book, Ledger, Share};
 
 /// How much counted work was done: a number that starts at 0 and that only `tick` raises.
 ///
-/// One step is one call of the block cipher. A `Steps` takes no octets and costs no time, and a clause reads it as
-/// the count. A caller that counts nothing makes one from a `Blank` of its own: it calls a function over `L: Ledger`
+/// What one step is, the call that counts says: a call of the block cipher, say, or a comparison of two rows. A `Steps`
+/// takes no octets and costs no time, and a clause reads it as the count. A caller that counts nothing makes one from a `Blank` of its own: it calls a function over `L: Ledger`
 /// that takes the blank, at the type `Brand`.
 #[derive(Drop)]
 pub struct Steps<L: Ledger> {

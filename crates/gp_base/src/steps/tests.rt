@@ -1,4 +1,4 @@
-ghost use Rattle.std.specs.Prelude.{◌≡◌, ◌<◌};
+ghost use Rattle.std.specs.Prelude.{◌≡◌, ◌+◌, ◌<◌};
 
 use crate::Steps;
 use std::marker::Brand;
@@ -10,6 +10,12 @@ fn counted_twice<L: Ledger>(blank: Blank)
     requires some { 0 < L.parts }
 {
     let mut steps = Steps::<L>::new(blank);
+    tick_twice(&mut steps);
+}
+
+fn tick_twice<L: Ledger>(steps: &mut Steps<L>)
+    ensures { steps.new ≡ steps.old + 2 }
+{
     steps.tick();
     steps.tick();
 }
