@@ -1,4 +1,5 @@
 pub mod Bodies
+pub mod CompleteLines
 pub mod Completeness
 mod JsonMembers
 pub mod LineLemmas

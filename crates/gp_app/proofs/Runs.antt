@@ -1,7 +1,6 @@
 -- What has been read and written so far, and what each way to end leaves.
-use Rattle.std.proofs.Common.{◌≡◌, ℕ, suc, ◌+◌, ◌⊎◌, inl, inr, true, false, ◌||◌, ◌<◌, ◌≤◌, eqb, false, List, [], ◌∷◌, ◌++◌, length, replicate, take, drop, Option, Some, None, refl, sym, ap, subst, ◌∙◌, append_assoc, arith}
+use Rattle.std.proofs.Common.{◌≡◌, ℕ, ◌+◌, ◌⊎◌, inl, inr, false, ◌<◌, ◌≤◌, eqb, false, List, [], ◌∷◌, ◌++◌, length, replicate, take, drop, Option, Some, None, refl, sym, ap, subst, ◌∙◌, append_assoc, arith}
 use Rattle.std.specs.Io.KnownBytes.{Appends, Consumes, Keeps, IsAtEnd}
-use Rattle.std.specs.List.{list_any}
 use Rattle.std.specs.Str.Lines.{lines, strip_carriage_return}
 use Rattle.std.proofs.lemmas.List.{append-nil, length-append, length-replicate, take-append-drop}
 use Rattle.std.proofs.lemmas.List.Elements.{All-replicate}
@@ -9,12 +8,13 @@ use Rattle.std.proofs.lemmas.Bool.{le-ltb}
 use Rattle.gp_app.specs.declared.status.Status.{Status}
 use Rattle.gp_app.specs.declared.status.Status.TheVariants.{Done, BadLine, Usage, ReadFault, WriteFault, DiskFault, NoMemory, DiskRefused, Worn, TooLong}
 use Rattle.gp_app.specs.Outcome.{Outcome, after, then_lines, outcome_of, outcome, complete}
-use Rattle.gp_app.specs.Stream.{HasNoEnd, MayGoOn, AreWhole, Takes, Stops, Ends, Grows, IsStop}
-use Rattle.gp_app.specs.Leaves.{IsFront, Decides, Fits, Leaves, Counts, Says, SaysOr}
+use Rattle.gp_app.specs.Stream.{HasNoEnd, MayGoOn, Takes, Stops, Ends, Grows, IsStop}
+use Rattle.gp_app.specs.Leaves.{IsFront, Decides, Fits, IsPart, Leaves, Counts, Says, SaysOr}
 use Rattle.gp_app.proofs.Streams.{Appends-then, Appends-nothing}
-use Rattle.gp_app.proofs.LineLemmas.{is_end, HasNoEnd-nil, HasNoEnd-append, lines-last, lines-append-end}
+use Rattle.gp_app.proofs.LineLemmas.{HasNoEnd-nil, HasNoEnd-append, lines-last, lines-append-end}
 use Rattle.gp_app.proofs.Outcomes.{outcome_of-wide}
-use Rattle.gp_app.proofs.Taking.{Takes-nothing, Takes-then, Takes-going, IsStop-map}
+use Rattle.gp_app.proofs.Taking.{Takes-nothing, Takes-then, Takes-going, Takes-complete, IsStop-map}
+use Rattle.gp_app.proofs.CompleteLines.{complete-append, complete-none}
 
 Consumes-nothing : (known : Option (List ℕ)) → Consumes known known []
 Consumes-nothing None = tt
@@ -31,29 +31,6 @@ Consumes-kept None b c xs h k = tt
 Consumes-kept (Some xa) None c xs h k = absurd h
 Consumes-kept (Some xa) (Some xb) None xs h k = absurd k
 Consumes-kept (Some xa) (Some xb) (Some xc) xs h k = h ∙ ap (λ (zs : List ℕ). xs ++ zs) (sym k)
-
--- ---- the lines that stand complete
-
-any_end : (front back : List ℕ) → list_any is_end (front ++ 10 ∷ back) ≡ true
-any_end [] back = refl
-any_end (octet ∷ front) back = elim (is_end octet) as (λ b. (b || list_any is_end (front ++ 10 ∷ back)) ≡ true) [ true ↦ refl | false ↦ any_end front back ]
-
-no_end : (octets : List ℕ) → HasNoEnd octets → list_any is_end octets ≡ false
-no_end [] none = refl
-no_end (octet ∷ octets) none = rw (none 0 0 (omega arith)) (no_end octets (λ k d h. none (suc k) d (omega arith)))
-
-complete-none : (octets : List ℕ) → HasNoEnd octets → complete octets ≡ []
-complete-none [] none = refl
-complete-none (octet ∷ octets) none = rw (no_end (octet ∷ octets) none) refl
-
-complete-end : (front begun : List ℕ) → HasNoEnd begun → complete (front ++ 10 ∷ begun) ≡ front ++ 10 ∷ []
-complete-end [] begun none = ap (λ (xs : List ℕ). 10 ∷ xs) (complete-none begun none)
-complete-end (octet ∷ front) begun none = rw (any_end (octet ∷ front) begun) (ap (λ (xs : List ℕ). octet ∷ xs) (complete-end front begun none))
-
-complete-whole : (whole begun : List ℕ) → AreWhole whole → HasNoEnd begun → complete (whole ++ begun) ≡ whole
-complete-whole whole begun (inl none) begins = rw none (complete-none begun begins)
-complete-whole whole begun (inr some) begins =
-    ap (λ (xs : List ℕ). complete (xs ++ begun)) some.1 ∙ ap complete (append_assoc some.0 (10 ∷ []) begun) ∙ complete-end some.0 begun begins ∙ sym some.1
 
 ended : (listing : List ℕ → Option (List ℕ)) (n : ℕ) (text : List ℕ) → after text (outcome_of listing (n + 1) []) ≡ record { text = text; status = Done }
 unfolding outcome_of
@@ -127,6 +104,13 @@ module _ (listing : List ℕ → Option (List ℕ)) where
     taken = rw grows.1 (Takes-then listing 0 [] h.read n begun h.told piece n' begun' grows.0 h.taken grows.2);
   }
 
+  -- what comes of the lines that stand complete in octets that were taken
+  taken_is : (n : ℕ) (begun piece : List ℕ) (n' : ℕ) (begun' text : List ℕ) → Takes listing n begun piece n' begun' text
+      → outcome_of listing (n + 1) (lines (complete (begun ++ piece))) ≡ record { text = text; status = Done }
+  taken_is n begun piece n' begun' text h =
+      let is : complete (begun ++ piece) ≡ h.whole ++ [] = ap complete h.parts ∙ complete-append h.whole begun' h.are_whole ∙ ap (λ (xs : List ℕ). h.whole ++ xs) (complete-none begun' h.begun) in
+      ap (λ (xs : List ℕ). outcome_of listing (n + 1) (lines xs)) is ∙ h.going [] ∙ ended listing n' text
+
   -- a read failed
   pub leaves_read_fault : (left left' left'' written written' : Option (List ℕ)) (n : ℕ) (begun : List ℕ) → Reads left left' written written' n begun → MayGoOn n begun → Keeps left' left'' → Leaves listing ReadFault left left'' written written'
   leaves_read_fault left left' left'' written written' n begun h goes_on keeps = record {
@@ -134,11 +118,10 @@ module _ (listing : List ℕ → Option (List ℕ)) where
     written = h.told;
     consumed = Consumes-kept left left' left'' h.read h.consumed keeps;
     appended = h.appended;
-    fits =
-        let is : complete h.read ≡ h.taken.whole = ap complete h.taken.parts ∙ complete-whole h.taken.whole begun h.taken.are_whole h.taken.begun in (
-          ap (outcome listing) is ∙ ap (λ (xs : List ℕ). outcome listing xs) (sym (append-nil h.taken.whole)) ∙ h.taken.going [] ∙ ended listing n h.told,
-          λ settled settles. not_settled listing n begun h.told h.taken.begun goes_on settled (λ rest. sym (Takes-going listing 0 [] h.read n begun h.told rest h.taken) ∙ settles rest),
-        );
+    fits = (
+      taken_is 0 [] h.read n begun h.told h.taken,
+      λ settled settles. not_settled listing n begun h.told h.taken.begun goes_on settled (λ rest. sym (Takes-going listing 0 [] h.read n begun h.told rest h.taken) ∙ settles rest),
+    );
   }
 
   -- the outcome of what was read with a piece that was taken, of one that stops, and of nothing more
@@ -150,16 +133,32 @@ module _ (listing : List ℕ → Option (List ℕ)) where
       → outcome_of listing (n + 1) (lines (begun ++ (piece ++ []))) ≡ o → outcome listing (read ++ piece) ≡ after told o
   text_of n begun read told piece h o is = ap (outcome listing) (sym (append-nil (read ++ piece))) ∙ going_on n begun read told piece h [] ∙ ap (after told) is
 
+  -- the text that a piece gives: of the lines that stand complete, and where none is left of all
+  abbrev Gives : Option (List ℕ) → ℕ → List ℕ → List ℕ → List ℕ → Type 0
+  Gives left n begun piece text =
+      ((outcome_of listing (n + 1) (lines (complete (begun ++ piece)))).text ≡ text)
+      ⊎ (IsAtEnd left × ((outcome_of listing (n + 1) (lines (begun ++ (piece ++ [])))).text ≡ text))
+
+  text_within : (left : Option (List ℕ)) (n : ℕ) (begun read told piece text : List ℕ) → Takes listing 0 [] read n begun told → Gives left n begun piece text → (count : ℕ)
+      → IsPart listing left (read ++ piece) (told ++ take count text)
+  text_within left n begun read told piece text h (inl is) count = inl (front_of told text [] _
+      (ap (λ (o : Outcome). o.text) (Takes-complete listing 0 [] read n begun told piece h) ∙ ap (λ (xs : List ℕ). told ++ xs) is ∙ sym (append-nil (told ++ text))) count)
+  text_within left n begun read told piece text h (inr is) count = inr (
+    is.0,
+    front_of told text [] _
+        (ap (λ (o : Outcome). o.text) (text_of n begun read told piece h _ refl) ∙ ap (λ (xs : List ℕ). told ++ xs) is.1 ∙ sym (append-nil (told ++ text))) count,
+  )
+
   -- the text of a piece was not written to its end
-  pub leaves_write_fault : (left left' left'' written written' written'' : Option (List ℕ)) (n : ℕ) (begun piece text : List ℕ) (o : Outcome) → Reads left left' written written' n begun → Consumes left' left'' piece
-      → outcome_of listing (n + 1) (lines (begun ++ (piece ++ []))) ≡ after text o → (count : ℕ) × Appends written' written'' (take count text)
+  pub leaves_write_fault : (left left' left'' written written' written'' : Option (List ℕ)) (n : ℕ) (begun piece text : List ℕ) → Reads left left' written written' n begun → Consumes left' left'' piece
+      → Gives left'' n begun piece text → (count : ℕ) × Appends written' written'' (take count text)
       → Leaves listing WriteFault left left'' written written''
-  leaves_write_fault left left' left'' written written' written'' n begun piece text o h consumed is appended = record {
+  leaves_write_fault left left' left'' written written' written'' n begun piece text h consumed gives appended = record {
     read = h.read ++ piece;
     written = h.told ++ take appended.0 text;
     consumed = Consumes-then left left' left'' h.read piece h.consumed consumed;
     appended = Appends-then written written' written'' h.told (take appended.0 text) h.appended appended.1;
-    fits = front_of h.told text o.text _ (ap (λ (x : Outcome). x.text) (text_of n begun h.read h.told piece h.taken (after text o) is) ∙ sym (append_assoc h.told text o.text)) appended.0;
+    fits = text_within left'' n begun h.read h.told piece text h.taken gives appended.0;
   }
 
   -- memory was not found
@@ -170,7 +169,7 @@ module _ (listing : List ℕ → Option (List ℕ)) where
     written = h.told;
     consumed = Consumes-then left left' left'' h.read piece h.consumed consumed;
     appended = h.appended;
-    fits = (_, ap (λ (x : Outcome). x.text) (text_of n begun h.read h.told piece h.taken (outcome_of listing (n + 1) (lines (begun ++ (piece ++ [])))) refl));
+    fits = inl (_, ap (λ (o : Outcome). o.text) (Takes-complete listing 0 [] h.read n begun h.told piece h.taken));
   }
 
   -- the octets of a piece decide, or that nothing more comes
@@ -180,16 +179,13 @@ module _ (listing : List ℕ → Option (List ℕ)) where
   at_end : (n : ℕ) (begun piece : List ℕ) (o : Outcome) → piece ≡ [] → Ends listing n begun o → outcome_of listing (n + 1) (lines (begun ++ (piece ++ []))) ≡ o
   at_end n begun piece o none ends = ap (λ (xs : List ℕ). outcome_of listing (n + 1) (lines (begun ++ (xs ++ [])))) none ∙ ap (λ (xs : List ℕ). outcome_of listing (n + 1) (lines xs)) (append-nil begun) ∙ ends
 
-  stopped_is : (left : Option (List ℕ)) (n : ℕ) (begun piece : List ℕ) (o : Outcome) → Stopped left n begun piece o → outcome_of listing (n + 1) (lines (begun ++ (piece ++ []))) ≡ o
-  stopped_is left n begun piece o (inl stops) = stops []
-  stopped_is left n begun piece o (inr ends) = at_end n begun piece o ends.1 ends.2
+  stopped_gives : (left : Option (List ℕ)) (n : ℕ) (begun piece : List ℕ) (o : Outcome) → Stopped left n begun piece o → Gives left n begun piece o.text
+  stopped_gives left n begun piece o (inl stops) = inl (ap (λ (xs : List ℕ). (outcome_of listing (n + 1) (lines (complete (begun ++ xs)))).text) (sym (append-nil piece)) ∙ (stops []).1)
+  stopped_gives left n begun piece o (inr ends) = inr (ends.0, ap (λ (out : Outcome). out.text) (at_end n begun piece o ends.1 ends.2))
 
   decides : (left : Option (List ℕ)) (n : ℕ) (begun read told piece : List ℕ) (o : Outcome) → Takes listing 0 [] read n begun told → Stopped left n begun piece o → Decides listing left (read ++ piece) (after told o)
-  decides left n begun read told piece o h (inl stops) = inl (λ rest. going_on n begun read told piece h rest ∙ ap (after told) (stops rest))
+  decides left n begun read told piece o h (inl stops) = inl (λ rest. going_on n begun read told piece h rest ∙ ap (after told) (stops rest).0)
   decides left n begun read told piece o h (inr ends) = inr (ends.0, text_of n begun read told piece h o (at_end n begun piece o ends.1 ends.2))
-
-  after-nothing : (text : List ℕ) (status : Status) → after text (record { text = []; status = status }) ≡ record { text = text; status = status }
-  after-nothing text status = ap (λ (xs : List ℕ). record { text = xs; status = status }) (append-nil text)
 
   module _ (left left' left'' written written' written'' : Option (List ℕ)) (n : ℕ) (begun piece text : List ℕ) (f f' : ℕ) where
     -- a status that the octets decide, and the text that was written before it
@@ -204,7 +200,7 @@ module _ (listing : List ℕ → Option (List ℕ)) where
       fits = to_fit (h.read ++ piece) (h.told ++ text) (decides left'' n begun h.read h.told piece (record { text = text; status = status }) h.taken stopped);
     })
     leaves_decided status result to_fit h consumed stopped (inr said) = subst (λ (s : Status). Leaves listing s left left'' written written'') (sym said.0)
-        (leaves_write_fault left left' left'' written written' written'' n begun piece text (record { text = []; status = status }) h consumed (stopped_is left'' n begun piece (record { text = text; status = status }) stopped ∙ sym (after-nothing text status)) said.1)
+        (leaves_write_fault left left' left'' written written' written'' n begun piece text h consumed (stopped_gives left'' n begun piece (record { text = text; status = status }) stopped) said.1)
 
     -- a piece, or the end of the input, at which it stops
     pub leaves_stop : (status result : Status) → Reads left left' written written' n begun → Consumes left' left'' piece → IsStop status [] text (Stopped left'' n begun piece)
@@ -236,7 +232,7 @@ module _ (listing : List ℕ → Option (List ℕ)) where
       → Reads left left' written written' n begun → Consumes left' left'' piece → Grows [] text (Takes listing n begun piece n' begun') → (count : ℕ) × Appends written' written'' (take count text)
       → Leaves listing WriteFault left left'' written written''
   leaves_piece_fault left left' left'' written written' written'' n begun piece n' begun' text h consumed grows appended =
-      leaves_write_fault left left' left'' written written' written'' n begun piece text (outcome_of listing (n' + 1) (lines (begun' ++ []))) h consumed (rw grows.1 (Takes-going listing n begun piece n' begun' grows.0 [] grows.2)) appended
+      leaves_write_fault left left' left'' written written' written'' n begun piece text h consumed (inl (rw grows.1 (ap (λ (o : Outcome). o.text) (taken_is n begun piece n' begun' grows.0 grows.2)))) appended
 
   -- what stops a piece or the end of the input
   pub stop_in_piece : (status : Status) (text : List ℕ) (left : Option (List ℕ)) (n : ℕ) (begun piece : List ℕ) → IsStop status [] text (Stops listing n begun piece) → IsStop status [] text (Stopped left n begun piece)

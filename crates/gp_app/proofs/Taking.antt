@@ -4,9 +4,10 @@ use Rattle.std.specs.Str.Lines.{lines, strip_carriage_return}
 use Rattle.std.proofs.lemmas.List.{append-nil, length-append}
 use Rattle.gp_app.specs.declared.status.Status.{Status}
 use Rattle.gp_app.specs.declared.status.Status.TheVariants.{Done, BadLine, Usage, ReadFault, WriteFault, DiskFault, NoMemory, DiskRefused, Worn, TooLong}
-use Rattle.gp_app.specs.Outcome.{Outcome, after, outcome_of}
+use Rattle.gp_app.specs.Outcome.{Outcome, after, outcome_of, complete}
 use Rattle.gp_app.specs.Stream.{HasNoEnd, AreWhole, Takes, Stops, Ends, Grows, IsStop}
-use Rattle.gp_app.proofs.LineLemmas.{lines-append-end, lines-last, HasNoEnd-nil, HasNoEnd-append, IsTooWide, length-strip, first_of-begun, first_of-wide}
+use Rattle.gp_app.proofs.LineLemmas.{lines-append-end, lines-last, HasNoEnd-nil, HasNoEnd-append, IsTooWide, length-strip, first_end, first_of-begun, first_of-wide}
+use Rattle.gp_app.proofs.CompleteLines.{complete-append, complete-line, complete-none}
 use Rattle.gp_app.proofs.Outcomes.{outcome_of-many, outcome_of-wide}
 
 after_after : (a b : List ℕ) (o : Outcome) → after a (after b o) ≡ after (a ++ b) o
@@ -38,12 +39,23 @@ module _ (listing : List ℕ → Option (List ℕ)) where
   Takes-going n begun one n' begun' text rest h =
       ap (λ (xs : List ℕ). outcome_of listing (n + 1) (lines xs)) (sym (append_assoc begun one rest) ∙ ap (λ (xs : List ℕ). xs ++ rest) h.parts ∙ append_assoc h.whole begun' rest) ∙ h.going (begun' ++ rest)
 
+  -- and of the lines that stand complete in them
+  pub Takes-complete : (n : ℕ) (begun one : List ℕ) (n' : ℕ) (begun' text rest : List ℕ) → Takes listing n begun one n' begun' text
+      → outcome_of listing (n + 1) (lines (complete (begun ++ (one ++ rest)))) ≡ after text (outcome_of listing (n' + 1) (lines (complete (begun' ++ rest))))
+  Takes-complete n begun one n' begun' text rest h =
+      ap (λ (xs : List ℕ). outcome_of listing (n + 1) (lines (complete xs))) (sym (append_assoc begun one rest) ∙ ap (λ (xs : List ℕ). xs ++ rest) h.parts ∙ append_assoc h.whole begun' rest)
+      ∙ ap (λ (xs : List ℕ). outcome_of listing (n + 1) (lines xs)) (complete-append h.whole (begun' ++ rest) h.are_whole) ∙ h.going (complete (begun' ++ rest))
+
   -- octets that decide behind those that were taken, and more that wasn't looked at
   pub Takes-stop : (n : ℕ) (begun one : List ℕ) (n' : ℕ) (begun' text two more : List ℕ) (o : Outcome)
       → Takes listing n begun one n' begun' text → Stops listing n' begun' two o → Stops listing n begun (one ++ (two ++ more)) (after text o)
   Takes-stop n begun one n' begun' text two more o h k rest =
-      ap (λ (xs : List ℕ). outcome_of listing (n + 1) (lines (begun ++ xs))) (append_assoc one (two ++ more) rest ∙ ap (λ (xs : List ℕ). one ++ xs) (append_assoc two more rest))
-      ∙ Takes-going n begun one n' begun' text (two ++ (more ++ rest)) h ∙ ap (after text) (k (more ++ rest))
+      let parts : (one ++ (two ++ more)) ++ rest ≡ one ++ (two ++ (more ++ rest)) = append_assoc one (two ++ more) rest ∙ ap (λ (xs : List ℕ). one ++ xs) (append_assoc two more rest) in
+      let behind = k (more ++ rest) in (
+        ap (λ (xs : List ℕ). outcome_of listing (n + 1) (lines (begun ++ xs))) parts ∙ Takes-going n begun one n' begun' text (two ++ (more ++ rest)) h ∙ ap (after text) behind.0,
+        ap (λ (xs : List ℕ). (outcome_of listing (n + 1) (lines (complete (begun ++ xs)))).text) parts
+            ∙ ap (λ (out : Outcome). out.text) (Takes-complete n begun one n' begun' text (two ++ (more ++ rest)) h) ∙ ap (λ (xs : List ℕ). text ++ xs) behind.1,
+      )
 
   -- an LF ends the line
   pub Takes-line : (n : ℕ) (begun front text : List ℕ) → HasNoEnd begun → HasNoEnd front
@@ -57,12 +69,24 @@ module _ (listing : List ℕ → Option (List ℕ)) where
     begun = HasNoEnd-nil;
   }
 
+  line_parts : (begun front rest : List ℕ) → begun ++ ((front ++ 10 ∷ []) ++ rest) ≡ (begun ++ front) ++ 10 ∷ rest
+  line_parts begun front rest = ap (λ (xs : List ℕ). begun ++ xs) (append_assoc front (10 ∷ []) rest) ∙ sym (append_assoc begun front (10 ∷ rest))
+
+  line_decides : (n : ℕ) (begun front : List ℕ) (o : Outcome) → HasNoEnd begun → HasNoEnd front
+      → ((others : List (List ℕ)) → outcome_of listing (n + 1) (strip_carriage_return (begun ++ front) ∷ others) ≡ o)
+      → (rest : List ℕ) → outcome_of listing (n + 1) (lines (begun ++ ((front ++ 10 ∷ []) ++ rest))) ≡ o
+  line_decides n begun front o none none' h rest =
+      ap (λ (xs : List ℕ). outcome_of listing (n + 1) (lines xs)) (line_parts begun front rest)
+      ∙ ap (outcome_of listing (n + 1)) (lines-append-end (begun ++ front) rest (HasNoEnd-append begun front none none')) ∙ h (lines rest)
+
   pub Stops-line : (n : ℕ) (begun front : List ℕ) (o : Outcome) → HasNoEnd begun → HasNoEnd front
       → ((others : List (List ℕ)) → outcome_of listing (n + 1) (strip_carriage_return (begun ++ front) ∷ others) ≡ o)
       → Stops listing n begun (front ++ 10 ∷ []) o
-  Stops-line n begun front o none none' h rest =
-      ap (λ (xs : List ℕ). outcome_of listing (n + 1) (lines xs)) (ap (λ (xs : List ℕ). begun ++ xs) (append_assoc front (10 ∷ []) rest) ∙ sym (append_assoc begun front (10 ∷ rest)))
-      ∙ ap (outcome_of listing (n + 1)) (lines-append-end (begun ++ front) rest (HasNoEnd-append begun front none none')) ∙ h (lines rest)
+  Stops-line n begun front o none none' h rest = (
+    line_decides n begun front o none none' h rest,
+    ap (λ (xs : List ℕ). (outcome_of listing (n + 1) (lines xs)).text) (ap complete (line_parts begun front rest) ∙ complete-line (begun ++ front) rest ∙ sym (line_parts begun front (complete rest)))
+        ∙ ap (λ (out : Outcome). out.text) (line_decides n begun front o none none' h (complete rest)),
+  )
 
   -- a line goes on
   pub Takes-on : (n : ℕ) (begun more : List ℕ) → HasNoEnd begun → HasNoEnd more → Takes listing n begun more n (begun ++ more) []
@@ -71,15 +95,34 @@ module _ (listing : List ℕ → Option (List ℕ)) where
   regrouped : (begun more rest : List ℕ) → begun ++ (more ++ rest) ≡ (begun ++ more) ++ rest
   regrouped begun more rest = sym (append_assoc begun more rest)
 
+  -- a line that has begun decides, and nothing is written for it
+  begun_parts : (begun more front rest : List ℕ) → begun ++ (more ++ (front ++ 10 ∷ rest)) ≡ ((begun ++ more) ++ front) ++ 10 ∷ rest
+  begun_parts begun more front rest = sym (append_assoc begun more (front ++ 10 ∷ rest)) ∙ sym (append_assoc (begun ++ more) front (10 ∷ rest))
+
+  Stops-begun : (n : ℕ) (begun more : List ℕ) (status : Status) → HasNoEnd begun → HasNoEnd more
+      → ((rest : List ℕ) → outcome_of listing (n + 1) (lines (begun ++ (more ++ rest))) ≡ record { text = []; status = status })
+      → Stops listing n begun more (record { text = []; status = status })
+  unfolding outcome_of
+  Stops-begun n begun more status none none' decides rest = (
+    decides rest,
+    elim (first_end rest) [
+      | inl endless ↦ ap (λ (xs : List ℕ). (outcome_of listing (n + 1) (lines xs)).text) (complete-none (begun ++ (more ++ rest)) (HasNoEnd-append begun (more ++ rest) none (HasNoEnd-append more rest none' endless)))
+      | inr found ↦
+          ap (λ (xs : List ℕ). (outcome_of listing (n + 1) (lines xs)).text)
+          (ap complete (ap (λ (xs : List ℕ). begun ++ (more ++ xs)) found.2 ∙ begun_parts begun more found.0 found.1) ∙ complete-line ((begun ++ more) ++ found.0) found.1 ∙ sym (begun_parts begun more found.0 (complete found.1)))
+          ∙ ap (λ (out : Outcome). out.text) (decides (found.0 ++ 10 ∷ complete found.1))
+    ],
+  )
+
   -- a line begins that is one too many
   pub Stops-many : (n : ℕ) (begun more : List ℕ) → HasNoEnd begun → HasNoEnd more → 0 < length more → 1000000 ≤ n → Stops listing n begun more (record { text = []; status = TooLong })
-  Stops-many n begun more none none' some many rest =
+  Stops-many n begun more none none' some many = Stops-begun n begun more TooLong none none' λ rest.
       let first = first_of-begun (begun ++ more) rest (HasNoEnd-append begun more none none') (omega (arith, length-append begun more)) in
       ap (λ (xs : List ℕ). outcome_of listing (n + 1) (lines xs)) (regrouped begun more rest) ∙ ap (outcome_of listing (n + 1)) first.2 ∙ outcome_of-many listing (n + 1) first.0 first.1 (omega arith)
 
   -- a line is too wide
   pub Stops-wide : (n : ℕ) (begun more : List ℕ) → HasNoEnd begun → HasNoEnd more → IsTooWide (begun ++ more) → Stops listing n begun more (record { text = []; status = TooLong })
-  Stops-wide n begun more none none' wide rest =
+  Stops-wide n begun more none none' wide = Stops-begun n begun more TooLong none none' λ rest.
       let first = first_of-wide (begun ++ more) rest (HasNoEnd-append begun more none none') wide in
       ap (λ (xs : List ℕ). outcome_of listing (n + 1) (lines xs)) (regrouped begun more rest) ∙ ap (outcome_of listing (n + 1)) first.2 ∙ outcome_of-wide listing (n + 1) first.0 first.1 first.3
 

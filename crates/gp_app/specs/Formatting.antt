@@ -12,10 +12,10 @@ use Rattle.gp_app.specs.declared.status.Status.TheVariants.{Done, BadLine, Usage
 -- may leave afterwards, and which it may have left since, by the status.
 abbrev pub FormatLeaves : Status → ℕ → Option (List ℕ) → (List ℕ → Type 0) → (List ℕ → Type 0) → (List ℕ → Type 0) → Type 0
 FormatLeaves Done size image before after since =
-    ((c : List ℕ) → after c → HoldsRows c []) × ((c : List ℕ) → since c → LeavesNoRows before c) × Told image (λ d. IsBegun d → ⊥)
+    (204800 ≤ size) × ((c : List ℕ) → after c → HoldsRows c []) × ((c : List ℕ) → since c → LeavesNoRows before c) × Told image (λ d. IsBegun d → ⊥)
 FormatLeaves (DiskRefused DiskShort) size image before after since = size < 204800
 FormatLeaves (DiskRefused AlreadyFormatted) size image before after since =
-    (204800 ≤ size) × Told image IsBegun × ((d : List ℕ) → image ≡ Some d → IsBegun d → (c : List ℕ) → since c → before c)
+    (204800 ≤ size) × Told image IsBegun × ((c : List ℕ) → since c → before c)
 FormatLeaves DiskFault size image before after since =
     (204800 ≤ size) × ((c : List ℕ) → since c → LeavesNoRows before c) × ((d : List ℕ) → image ≡ Some d → IsBegun d → (c : List ℕ) → since c → before c)
 FormatLeaves (DiskRefused NotFormatted) size image before after since = ⊥

@@ -23,14 +23,19 @@ abbrev pub IsOpen : (List ℕ → Option (List ℕ)) → List ℕ → List ℕ �
 IsOpen listing read written =
     (outcome listing (complete read) ≡ record { text = written; status = Done }) × ((settled : Outcome) → Settles listing read settled → ⊥)
 
+-- A front of the text of the lines that were read: those that stand complete, and where none is left the last one too.
+abbrev pub IsPart : (List ℕ → Option (List ℕ)) → Option (List ℕ) → List ℕ → List ℕ → Type 0
+IsPart listing left read written =
+    IsFront written (outcome listing (complete read)).text ⊎ (IsAtEnd left × IsFront written (outcome listing read).text)
+
 -- what was written, by the status: of what was read, and of what is left
 abbrev pub Fits : (List ℕ → Option (List ℕ)) → Status → Option (List ℕ) → List ℕ → List ℕ → Type 0
 Fits listing Done left read written = IsAtEnd left × (outcome listing read ≡ record { text = written; status = Done })
 Fits listing (BadLine line reason) left read written = Decides listing left read (record { text = written; status = BadLine line reason })
 Fits listing TooLong left read written = Decides listing left read (record { text = written; status = TooLong })
 Fits listing ReadFault left read written = IsOpen listing read written
-Fits listing WriteFault left read written = IsFront written (outcome listing read).text
-Fits listing NoMemory left read written = IsFront written (outcome listing read).text
+Fits listing WriteFault left read written = IsPart listing left read written
+Fits listing NoMemory left read written = IsPart listing left read written
 Fits listing Usage left read written = ⊥
 Fits listing DiskFault left read written = ⊥
 Fits listing (DiskRefused reason) left read written = ⊥

@@ -3,7 +3,7 @@ use Rattle.std.specs.Prelude.{◌≡◌, ℕ, ◌+◌, ◌-◌, ◌*◌, ◌<◌
 use Rattle.std.specs.Str.Lines.{lines, strip_carriage_return}
 use Rattle.gp_app.specs.declared.status.Status.{Status}
 use Rattle.gp_app.specs.declared.status.Status.TheVariants.{Done, BadLine, Usage, ReadFault, WriteFault, DiskFault, NoMemory, DiskRefused, Worn, TooLong}
-use Rattle.gp_app.specs.Outcome.{Outcome, after, outcome_of}
+use Rattle.gp_app.specs.Outcome.{Outcome, after, outcome_of, complete}
 
 -- no LF is among the octets
 abbrev pub HasNoEnd : List ℕ → Type 0
@@ -22,9 +22,11 @@ pub record Takes (listing : List ℕ → Option (List ℕ)) (lines_before : ℕ)
   pub are_whole : AreWhole whole
   pub begun : HasNoEnd begun_after
 
--- From there the octets decide the outcome, whatever comes after them.
+-- From there the octets decide the outcome, whatever comes after them, and its text is that of the lines that stand complete.
 abbrev pub Stops : (List ℕ → Option (List ℕ)) → ℕ → List ℕ → List ℕ → Outcome → Type 0
-Stops listing lines_before begun octets outcome = (rest : List ℕ) → outcome_of listing (lines_before + 1) (lines (begun ++ (octets ++ rest))) ≡ outcome
+Stops listing lines_before begun octets decided = (rest : List ℕ) →
+    (outcome_of listing (lines_before + 1) (lines (begun ++ (octets ++ rest))) ≡ decided)
+    × ((outcome_of listing (lines_before + 1) (lines (complete (begun ++ (octets ++ rest))))).text ≡ decided.text)
 
 -- From there nothing more comes, and that decides the outcome.
 abbrev pub Ends : (List ℕ → Option (List ℕ)) → ℕ → List ℕ → Outcome → Type 0

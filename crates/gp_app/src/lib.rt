@@ -1,7 +1,7 @@
 //! The program as one call: words, a source, an output and a disk in, a status and the disk out.
 //! To the layer above, `run` says for every status what was read, written and left on the disk, and when it comes.
-//! The contracts cite `Outcome`, what comes of an input by the listing that the words ask for (`Form`), `Leaves`, what a
-//! run leaves by its status, and `Formatting`, what formatting leaves.
+//! The contracts cite `Command`, what the words ask for, `Outcome`, what comes of an input by the listing that they ask for
+//! (`Form`), `Leaves`, what a run leaves by its status, and `Formatting`, what formatting leaves.
 #![tactic(auto)]
 
 mod command;

@@ -77,7 +77,10 @@ fn formatted<D: Disk>(mut disk: D) -> (Status, D)
             disk,
         ),
         Err(StoreFault::DiskFault) => (Status::DiskFault, disk),
-        Err(_) => unreachable!(),
+        // A formatting looks at no slot and takes no memory.
+        Err(StoreFault::NotFormatted | StoreFault::SlotForm { .. } | StoreFault::NoMemory) => {
+            unreachable!()
+        }
     }
 }
 

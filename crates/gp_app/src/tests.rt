@@ -77,14 +77,14 @@ fn listings(rt: HostRuntime) -> Result<(), Fail> {
     Ok(())
 }
 
-// A run in pieces of 29 octets ends with this status, and this was written until then.
+// Whether a run in pieces of 29 octets ends with this status, and this was written until then.
 fn ends(
     rt: &HostRuntime,
     words: &[&str],
     input: &str,
     status: Status,
     listing: &str,
-) -> Result<(), Fail> {
+) -> Result<bool, Fail> {
     let case = Case {
         words,
         input: input.as_bytes(),
@@ -92,14 +92,12 @@ fn ends(
         failing_reads: &[],
         failing_writes: &[],
     };
-    ends_case(rt, &case, status, listing)
+    case_ends(rt, &case, status, listing)
 }
 
-fn ends_case(rt: &HostRuntime, case: &Case, status: Status, listing: &str) -> Result<(), Fail> {
+fn case_ends(rt: &HostRuntime, case: &Case, status: Status, listing: &str) -> Result<bool, Fail> {
     let (answer, written) = outcome(rt, case)?;
-    assert_eq!(rt; answer, status);
-    assert_eq!(rt; written.as_slice(), listing.as_bytes());
-    Ok(())
+    Ok(answer == status && written.as_slice() == listing.as_bytes())
 }
 
 // The first line that has none of the forms.
@@ -113,12 +111,13 @@ fn bad_line(line: u64) -> Status {
 fn refusals(rt: HostRuntime) -> Result<(), Fail> {
     let bad = format!(in rt.alloc(); "{FRAME}\n0G\n{FRAME}\n")?;
     let wide = format!(in rt.alloc(); "{FRAME}\n{:0>1025}\n", "")?;
-    ends(&rt, &["decode", "xyz"], FRAME, Status::Usage, "")?;
-    ends(&rt, &[], FRAME, Status::Usage, "")?;
-    ends(&rt, &["decode"], "0G", bad_line(1), "")?;
-    ends(&rt, &["decode"], bad.as_str(), bad_line(2), LISTING)?;
-    ends(&rt, &["decode"], "00\r", bad_line(1), "")?;
-    ends(&rt, &["decode"], wide.as_str(), Status::TooLong, LISTING)
+    assert!(rt; ends(&rt, &["decode", "xyz"], FRAME, Status::Usage, "")?);
+    assert!(rt; ends(&rt, &[], FRAME, Status::Usage, "")?);
+    assert!(rt; ends(&rt, &["decode"], "0G", bad_line(1), "")?);
+    assert!(rt; ends(&rt, &["decode"], bad.as_str(), bad_line(2), LISTING)?);
+    assert!(rt; ends(&rt, &["decode"], "00\r", bad_line(1), "")?);
+    assert!(rt; ends(&rt, &["decode"], wide.as_str(), Status::TooLong, LISTING)?);
+    Ok(())
 }
 
 // A read and a write that fail; and a second read that fails where the first one gave 1,025 octets without an LF, which
@@ -140,15 +139,15 @@ fn faults(rt: HostRuntime) -> Result<(), Fail> {
         failing_writes: &[0],
         ..read_fails
     };
-    ends_case(&rt, &read_fails, Status::ReadFault, LISTING)?;
-    ends_case(&rt, &write_fails, Status::WriteFault, "")?;
+    assert!(rt; case_ends(&rt, &read_fails, Status::ReadFault, LISTING)?);
+    assert!(rt; case_ends(&rt, &write_fails, Status::WriteFault, "")?);
     for (input, status) in [(&wide, Status::TooLong), (&full, Status::ReadFault)] {
         let case = Case {
             input: input.as_bytes(),
             piece: 1025,
             ..read_fails
         };
-        ends_case(&rt, &case, status, "")?;
+        assert!(rt; case_ends(&rt, &case, status, "")?);
     }
     Ok(())
 }

@@ -50,6 +50,7 @@ fn put_message(
     let mut listed = Vec::new(alloc);
     push_message(&mut listed, zcl)?;
     let Ok(text) = str::from_utf8(listed.as_slice()) else {
+        // A listing is ASCII.
         unreachable!();
     };
     put_text(alloc, map, key, text)
