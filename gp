@@ -45,12 +45,13 @@ quiet is 0 or 1, the rest is hexadecimal. What is no message is bad with Short, 
 Trailing or Long.
 
 As JSON a frame is one compact object with the keys auto, body, command, counter, dest, ext, kind, mic, pan, seq, src and
-tag, a message is {"zcl":TEXT} with its listing as text, and what is refused is {"bad":REASON,"place":N}. In a frame an
-absent field is null; so are a command that is refused or isn't in clear, and a tag that isn't told. Octets and fields of a fixed width are hexadecimal
-texts; identifiers, single octets and counters are numbers.
+tag, a message is {"zcl":TEXT} with its listing as text, and what is refused is {"bad":REASON,"place":N}. An absent field
+is null; so are a command that is refused or isn't in clear, and a tag that isn't told. In a frame fields and octets are
+hexadecimal texts and the counter is a number. In a command its identifier, its fields of one octet, its counter and its
+time are numbers, all else is hexadecimal texts.
 
 Exit statuses, with their text on standard error after 'gp: ':
-  0  all of the input was read, and all of the output written
+  0  done: the input was read to its end and all of it listed, or the empty store was written
   1  bad line N: REASON      the line is refused; the lines before it are listed
   2  usage                   the words are none of the above
   3  read fault              standard input failed
@@ -60,6 +61,8 @@ Exit statuses, with their text on standard error after 'gp: ':
   7  disk refused: REASON    DiskShort, NotFormatted, AlreadyFormatted, or SlotForm and the number of the ill slot
   8  worn at N               the disk takes no more changes
   9  too long                there are too many lines, or a line is too wide
+ 10  (of this launcher)      the toolchain isn't there or doesn't build the sources, or format comes before there is a
+                             proved program
 PAGE
 }
 
@@ -73,17 +76,39 @@ is_current() {
   [ -x "$program" ] && [ -z "$(find "$top/crates.txt" "$top"/crates/*/src "$top"/crates/*/specs "$top"/crates/*/proofs -newer "$program" -type f 2>/dev/null | head -n 1)" ]
 }
 
+log=$(mktemp)
+trap 'rm -f "$log"' EXIT
+
+# Says why the program can't be run, with a status that it hasn't itself.
+fail() {
+  echo "gp: $1" >&2
+  exit 10
+}
+
+if ! is_current; then
+  command -v rt > /dev/null || fail "the toolchain's command rt isn't there"
+fi
 if [ -x "$program" ] && ! is_current; then
   echo "gp: a source is newer than the program; it is proved and built again" >&2
-  (cd "$crate" && rt run -- decode < /dev/null > /dev/null 2>&1) || true
+  if ! (cd "$crate" && rt run -- decode) < /dev/null > "$log" 2>&1; then
+    grep -v ': proved$' "$log" | tail -n 20 >&2
+    echo "gp: the sources aren't proved as they stand" >&2
+  fi
 fi
 if is_current; then
+  rm -f "$log"
   exec "$program" "$@"
 fi
 # The sources are run in their own folder, so they find no gp.disk of this one.
-if [ $# -gt 0 ] && [ "$1" = format ]; then
-  echo "gp: format wants the proved program: run 'rt run -- decode </dev/null' in crates/gp_cli first" >&2
-  exit 5
+if [ $# -eq 1 ] && [ "$1" = format ]; then
+  fail "format wants the proved program: run 'rt run -- decode </dev/null' in crates/gp_cli first"
 fi
 echo "gp: this run is of the sources, unproved; 'rt run -- decode </dev/null' in crates/gp_cli makes the proved program" >&2
-cd "$crate" && exec rt try -- "$@" 2> >(grep '^gp:' >&2)
+(cd "$crate" && rt try -- "$@" 2> "$log")
+status=$?
+if [ "$status" = 0 ] || grep -q '^gp: ' "$log"; then
+  grep '^gp: ' "$log" >&2
+  exit "$status"
+fi
+cat "$log" >&2
+fail "the sources can't be run"
