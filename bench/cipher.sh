@@ -1,20 +1,28 @@
 #!/usr/bin/env bash
 # Seals frames of level 2 and 3 with 1, 16 and 104 command octets, and prints for each how many frames a second one
 # processor seals and, where valgrind is installed, how many instructions a block of the cipher takes with all that
-# stands around it. Where mbedTLS's headers and libmbedcrypto.a are installed, it seals the same frames in the same
-# run: with its tables, and with the processor's AES instructions. Each frame expands its key. It measures and fails
-# nothing.
+# stands around it. Where mbedTLS's headers and libmbedcrypto.a are installed, that seals the same frames in the same
+# run: with its tables, and with the processor's AES instructions, each with how much faster it is. Each frame expands its
+# key. It judges no figure.
 set -u
 cd "$(dirname "$0")/.."
 program=crates/gp_cipher_bench/out/gp_cipher_bench
-[ -x "$program" ] || (cd crates/gp_cipher_bench && rt run -- 3 16 1000 >/dev/null 2>&1)
+if [ ! -x "$program" ]; then
+    echo "bench: no proved program; run 'rt run -- 3 16 1000' in crates/gp_cipher_bench first" >&2
+    exit 0
+fi
+rm -rf bench/out
 mkdir -p bench/out
 frames=${FRAMES:-200000}
 
 library=$(ls /usr/lib/*/libmbedcrypto.a 2>/dev/null | head -1)
 if [ -n "$library" ]; then
-    cc -O2 -DTABLES bench/peer.c -o bench/out/tables "$library" -Wl,-z,muldefs 2>/dev/null
-    cc -O2 bench/peer.c -o bench/out/instructions "$library" 2>/dev/null
+    cc -O2 -DTABLES bench/peer.c -o bench/out/tables "$library" -Wl,-z,muldefs ||
+        echo "bench: the peer with tables can't be built" >&2
+    cc -O2 bench/peer.c -o bench/out/instructions "$library" ||
+        echo "bench: the peer with the processor's instructions can't be built" >&2
+else
+    echo "bench: no libmbedcrypto.a to compare with" >&2
 fi
 
 # how many blocks one frame takes: level, octets
@@ -54,8 +62,10 @@ line() {
         many=$(instructions "$2" "$3" "$4" 2000)
         [ -n "$few" ] && [ -n "$many" ] && per=$(((many - few) / 1000 / count))
     fi
-    printf '%-22s level %s octets %3s blocks %2s frames/s %9s instructions/block %5s\n' \
-        "$1" "$3" "$4" "$count" "$((frames * 1000000000 / nanoseconds))" "$per"
+    if [ "$1" = gp ]; then own=$nanoseconds; fi
+    printf '%-22s level %s octets %3s blocks %2s frames/s %9s instructions/block %5s ratio %s\n' \
+        "$1" "$3" "$4" "$count" "$((frames * 1000000000 / nanoseconds))" "$per" \
+        "$(awk -v own="$own" -v other="$nanoseconds" 'BEGIN { printf "%.2f", own / other }')"
 }
 
 for level in 2 3; do

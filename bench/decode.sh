@@ -1,6 +1,6 @@
 #!/usr/bin/env bash
-# Lists a capture of 200,000 short lines with the proved program, and prints lines a second and the greatest
-# memory that was resident. It only measures: it fails nothing.
+# Lists three captures of 200,000 short lines, all alike, with the proved program and the words that are given (decode where
+# none are), and prints of each lines a second and the greatest memory that was resident. It judges no figure.
 set -eu
 cd "$(dirname "$0")/.."
 program=crates/gp_cli/out/gp_cli

@@ -37,11 +37,7 @@ int main(int argc, char **argv) {
     for (uint32_t counter = 0; counter < frames; counter++) {
         put(frame + 6, counter);
         put(nonce + 8, counter);
-#ifndef KEY_ONCE
         if (mbedtls_ccm_setkey(&context, MBEDTLS_CIPHER_ID_AES, KEY, 128) != 0) return 1;
-#else
-        if (counter == 0 && mbedtls_ccm_setkey(&context, MBEDTLS_CIPHER_ID_AES, KEY, 128) != 0) return 1;
-#endif
         size_t aad = encrypt ? 10 : 10 + octets;
         size_t message = encrypt ? octets : 0;
         if (mbedtls_ccm_star_encrypt_and_tag(&context, message, nonce, 13, frame, aad, frame + 10,

@@ -1,11 +1,14 @@
 #!/usr/bin/env bash
 # Prints how many milliseconds a recovery takes of a disk of 1,024 rows with both slots of each open, and how many a
 # commit of a counter floor takes there. The disk is in memory, and each figure is the difference of two runs of the
-# proved program, each the best of five. It measures and fails nothing.
+# proved program, each the best of five. It judges no figure.
 set -u
 cd "$(dirname "$0")/.."
 program=crates/gp_store_bench/out/gp_store_bench
-[ -x "$program" ] || (cd crates/gp_store_bench && rt run -- 16 3 100 >/dev/null 2>&1)
+if [ ! -x "$program" ]; then
+    echo "bench: no proved program; run 'rt run -- 16 3 100' in crates/gp_store_bench first" >&2
+    exit 0
+fi
 rows=${ROWS:-1024}
 recoveries=${RECOVERIES:-100}
 floors=${FLOORS:-20000}
