@@ -10,8 +10,8 @@ use Rattle.gp_store.specs.declared.commit.Stale.{Stale}
 use Rattle.gp_store.specs.Slot.{Spelled}
 use Rattle.gp_store.specs.Slots.{newest, other_side}
 use Rattle.gp_store.specs.Image.{slots, format_1}
-use Rattle.gp_store.specs.Writes.{TellsOpen}
-use Rattle.gp_store.specs.Commit.{Survives, Stands, Writes, IsWritable}
+use Rattle.gp_store.specs.Writes.{TellsOpen, Writes, IsWritable}
+use Rattle.gp_store.specs.Commit.{Survives, Stands}
 use Rattle.gp_store.specs.Kept.{IsReady}
 use Rattle.gp_store.proofs.Consistent.{Opens}
 use Rattle.gp_store.proofs.RowsHeld.{ChangesAt, opens_at_end, closed_past}

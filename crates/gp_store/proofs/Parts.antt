@@ -22,6 +22,13 @@ part-outside at n old new i k o (inl below) =
 part-outside at n old new i k o (inr above) =
     part-drop i k (at + n) new above ∙ ap (λ (l : List ℕ). part (i - (at + n)) k l) o.above ∙ sym (part-drop i k (at + n) old above)
 
+-- what is behind the range is the same
+pub drop-outside : (at n : ℕ) (old new : List ℕ) (end : ℕ) → Outside at n old new → at + n ≤ end → drop end new ≡ drop end old
+drop-outside at n old new end o above = from new ∙ ap (λ (l : List ℕ). drop (end - (at + n)) l) o.above ∙ sym (from old)
+  where
+    from : (xs : List ℕ) → drop end xs ≡ drop (end - (at + n)) (drop (at + n) xs)
+    from xs = let e : at + n + (end - (at + n)) ≡ end = omega arith in ap (λ (m : ℕ). drop m xs) (sym e) ∙ sym (drop-drop (end - (at + n)) (at + n) xs)
+
 -- an octet that misses the range is the same
 pub octet-outside : (at n : ℕ) (old new : List ℕ) (i : ℕ) → Outside at n old new → ((i < at) ⊎ (at + n ≤ i)) → slice_index new i ≡ slice_index old i
 octet-outside at n old new i o (inl below) =

@@ -16,8 +16,8 @@ use Rattle.gp_store.specs.declared.commit.Stale.{Stale}
 use Rattle.gp_store.specs.Slot.{Spelled}
 use Rattle.gp_store.specs.Slots.{other_side, newest}
 use Rattle.gp_store.specs.Image.{slots, format_1, HoldsRows, HasLast}
-use Rattle.gp_store.specs.Writes.{Rewritten, TellsOpen}
-use Rattle.gp_store.specs.Commit.{Survives, Stands, Writes, IsWritable, HasReason, OnMade, OnNotMade, OnDiskFault, undecided_after}
+use Rattle.gp_store.specs.Writes.{Rewritten, TellsOpen, Writes, IsWritable}
+use Rattle.gp_store.specs.Commit.{Survives, Stands, HasReason, OnMade, OnNotMade, OnDiskFault, undecided_after}
 use Rattle.gp_store.specs.Kept.{IsStale, IsTold, IsReady}
 use Rattle.gp_store.proofs.Consistent.{Opens}
 use Rattle.gp_store.proofs.RowsHeld.{ChangesAt, slot_of_row, opens_there}

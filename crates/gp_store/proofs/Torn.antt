@@ -1,19 +1,19 @@
 -- One fact a kind of stable write: what an image is whose named range may hold any octets, and what it is after the write.
 use Rattle.std.proofs.Common.{◌≡◌, ◌⊎◌, inl, inr, ⊎_elim, ℕ, ◌+◌, ◌<◌, ◌≤◌, Bool, List, [], ◌∷◌, length, Some, None, refl, ◌∙◌, ap, subst, arith}
 use Rattle.gp_disk.specs.Disk.{part, put, Outside}
-use Rattle.gp_store.specs.Image.{Layout, OPEN, gate_at, slots}
+use Rattle.gp_store.specs.Image.{Layout, OPEN, gate_at, slots_end, slots}
 use Rattle.gp_store.specs.Writes.{OnlyAt, Closed, Rewritten}
-use Rattle.gp_store.proofs.Parts.{part-outside, octet-outside, part-put, octet-put, Outside-put}
-use Rattle.gp_store.proofs.Images.{apart, slots_same, slots_either, slots_at_open, slots_at_closed, slots_closed_same}
+use Rattle.gp_store.proofs.Parts.{part-outside, drop-outside, octet-outside, part-put, octet-put, Outside-put}
+use Rattle.gp_store.proofs.Images.{apart, before_end, slots_same, slots_either, slots_at_open, slots_at_closed, slots_closed_same}
 
 pub OnlyAt-same : (l : Layout) (row : ℕ) (side : Bool) (image : List ℕ) → OnlyAt l row side image image
-OnlyAt-same l row side image = record { size = refl; header = refl; others = λ r s other. refl }
+OnlyAt-same l row side image = record { size = refl; header = refl; others = λ r s other. refl; behind = refl }
 
 pub OnlyAt-trans : (l : Layout) (row : ℕ) (side : Bool) (a b c : List ℕ) → OnlyAt l row side a b → OnlyAt l row side b c → OnlyAt l row side a c
-OnlyAt-trans l row side a b c p q = record { size = q.size ∙ p.size; header = q.header ∙ p.header; others = λ r s other. q.others r s other ∙ p.others r s other }
+OnlyAt-trans l row side a b c p q = record { size = q.size ∙ p.size; header = q.header ∙ p.header; others = λ r s other. q.others r s other ∙ p.others r s other; behind = q.behind ∙ p.behind }
 
-module _ (l : Layout) (row : ℕ) (side : Bool) (behind_header : 8 ≤ l.first) where
-  -- octets of a slot, its gate or those behind it, change no other slot and not the header
+module _ (l : Layout) (row : ℕ) (side : Bool) (behind_header : 8 ≤ l.first) (there : row < l.rows) where
+  -- octets of a slot, its gate or those behind it, change no other slot, not the header and nothing behind the slots
   pub only_at : (at n : ℕ) (old new : List ℕ) → gate_at l row side ≤ at → at + n ≤ gate_at l row side + (l.behind + 1) → Outside at n old new → OnlyAt l row side old new
   only_at at n old new from to o = record {
     size = o.size;
@@ -22,6 +22,7 @@ module _ (l : Layout) (row : ℕ) (side : Bool) (behind_header : 8 ≤ l.first) 
         slots_same l old new r s
         (octet-outside at n old new (gate_at l r s) o (⊎_elim (λ h. inl (omega arith)) (λ h. inr (omega arith)) where_it_is))
         (part-outside at n old new (gate_at l r s + 1) l.behind o (⊎_elim (λ h. inl (omega arith)) (λ h. inr (omega arith)) where_it_is));
+    behind = drop-outside at n old new (slots_end l) o (let b = before_end l row side there in omega (arith, b, to));
   }
 
   -- a torn gate leaves that slot closed, or open with the octets behind it
@@ -63,9 +64,9 @@ module _ (l : Layout) (row : ℕ) (side : Bool) (behind_header : 8 ≤ l.first) 
       )
 
   -- a gate that is written open
-  pub written_open : (octets image : List ℕ) → row < l.rows → gate_at l row side < length image → part (gate_at l row side + 1) l.behind image ≡ octets
+  pub written_open : (octets image : List ℕ) → gate_at l row side < length image → part (gate_at l row side + 1) l.behind image ≡ octets
       → Rewritten l row side octets image (put (gate_at l row side) (OPEN ∷ []) image)
-  written_open octets image there within behind =
+  written_open octets image within behind =
       let fits : gate_at l row side + 1 ≤ length image = omega arith in
       let outside = Outside-put (gate_at l row side) (OPEN ∷ []) image fits in
       let kept = part-outside (gate_at l row side) 1 image _ (gate_at l row side + 1) l.behind outside (inr (omega arith)) in

@@ -1,14 +1,12 @@
 -- What a commit answers, and what it leaves on the disk at each of its moments.
-use Rattle.std.specs.Prelude.{◌≡◌, ◌<◌, ◌≤◌, ◌^◌, ◌⊎◌, ℕ, ◌+◌, ◌-◌, Bool, true, false, List, Option, Some, Result, Ok, Err}
+use Rattle.std.specs.Prelude.{◌≡◌, ◌<◌, ◌≤◌, ◌^◌, ◌⊎◌, ℕ, ◌+◌, ◌-◌, Bool, true, false, List, drop, Option, Some, Result, Ok, Err}
 use Rattle.gp_base.specs.Outside.{one_more}
-use Rattle.gp_disk.specs.Disk.{Tally, IsQuiet}
+use Rattle.gp_disk.specs.Disk.{Tally}
 use Rattle.gp_disk.specs.Fuse.{Fuse, lit, burnt, Foretold}
 use Rattle.gp_rows.specs.declared.row.Row.{Row}
 use Rattle.gp_store.specs.declared.fault.CommitFault.{CommitFault}
 use Rattle.gp_store.specs.declared.fault.CommitFault.TheVariants.{TableFull, Worn, DiskFault, Halted}
-use Rattle.gp_store.specs.Slot.{Spelled}
-use Rattle.gp_store.specs.Image.{HoldsRows, HasLast, format_1}
-use Rattle.gp_store.specs.Writes.{Rewrites, Rewritten, Becomes, TellsOpen}
+use Rattle.gp_store.specs.Image.{HoldsRows, HasLast, slots_end, format_1}
 
 -- Each answer comes exactly where its line holds: the store was halted; else the rows have no room (`full`); else the
 -- last generation is the greatest one; else the commit is made.
@@ -76,26 +74,13 @@ pub record Survives (left : List ℕ → Type 0) (before after : List Row) (last
   pub rows : (c : List ℕ) → left c → HoldsRows c before ⊎ HoldsRows c after
   pub generation : (c : List ℕ) (n : ℕ) → left c → HasLast c n → n ≤ last + 2
 
+-- at each moment since the last `begin` a crash leaves the octets behind the slots as a read gave them
+abbrev pub KeepsBehind : Option (List ℕ) → (List ℕ → Type 0) → Type 0
+KeepsBehind image left = (c : List ℕ) → left c → (d : List ℕ) × (image ≡ Some d) × (drop (slots_end format_1) c ≡ drop (slots_end format_1) d)
+
 -- every image that a crash now may leave holds these rows, with this last generation
 abbrev pub Stands : (List ℕ → Type 0) → List Row → ℕ → Type 0
 Stands may_leave rows last = (c : List ℕ) → may_leave c → HoldsRows c rows × HasLast c last
-
--- a row can be written into this slot: the disk is large enough and at rest, and tells whether the slot is open
-pub record IsWritable (tally : Tally) (image : Option (List ℕ)) (may_leave : List ℕ → Type 0) (row : ℕ) (side is_open : Bool) : Type 0 where
-  pub size : 204800 ≤ tally.size
-  pub quiet : IsQuiet tally image may_leave
-  pub tells : TellsOpen format_1 row side is_open image
-
--- since the last `begin` a crash leaves the image from before, with this slot as it was, closed, or with the octets
-abbrev pub LeavesRewritten : ℕ → Bool → List ℕ → Option (List ℕ) → (List ℕ → Type 0) → Type 0
-LeavesRewritten row side octets image left = (c : List ℕ) → left c → (d : List ℕ) × (image ≡ Some d) × Rewrites format_1 row side octets d c
-
--- the slot is rewritten with octets that spell this row under this generation, at each moment and where it is done
-pub record Writes (row : ℕ) (side : Bool) (value : Row) (number : ℕ) (image new : Option (List ℕ)) (left : List ℕ → Type 0) (is_done : Bool) : Type 0 where
-  pub octets : List ℕ
-  pub spelled : Spelled octets value number
-  pub moments : LeavesRewritten row side octets image left
-  pub done : is_done ≡ true → Becomes (Rewritten format_1 row side octets) image new
 
 -- the device calls since the last `begin` are at most six, and no read is among them
 pub record WritesAlone (tally : Tally) : Type 0 where

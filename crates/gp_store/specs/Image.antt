@@ -25,6 +25,10 @@ format_1 = record { size = 204800; first = 4096; behind = 63; rows = 1024 }
 abbrev pub gate_at : Layout → ℕ → Bool → ℕ
 gate_at layout row side = layout.first + (layout.behind + 1) * slot_number row side
 
+-- the place behind the last slot: 135,168 in format 1
+abbrev pub slots_end : Layout → ℕ
+slots_end layout = layout.first + (layout.behind + 1) * (2 * layout.rows)
+
 -- the slots of an image
 unfoldable pub slots : Layout → List ℕ → Slots
 slots layout image row side =

@@ -1,13 +1,18 @@
--- What one slot's rewriting leaves of an image, at each moment of it and at its end.
-use Rattle.std.specs.Prelude.{◌≡◌, ◌⊎◌, ◌+◌, ℕ, Bool, true, false, List, length, Option, Some, None, is_some}
-use Rattle.gp_disk.specs.Disk.{Tally, after_write, after_sync, part}
-use Rattle.gp_store.specs.Image.{Layout, gate_at, slots}
+-- What one slot's rewriting leaves of an image, at each moment of it and at its end. No public clause cites this
+-- file.
+use Rattle.std.specs.Prelude.{◌≡◌, ◌≤◌, ◌⊎◌, ◌+◌, ℕ, Bool, true, false, List, length, drop, Option, Some, None, is_some}
+use Rattle.gp_disk.specs.Disk.{Tally, IsQuiet, after_write, after_sync, part}
+use Rattle.gp_rows.specs.declared.row.Row.{Row}
+use Rattle.gp_store.specs.Slot.{Spelled}
+use Rattle.gp_store.specs.Image.{Layout, format_1, gate_at, slots_end, slots}
 
--- two images of one size and with one header, of which each slot but this one is the same
+-- two images of one size, with one header and the same octets behind the slots, of which each slot but this one is the
+-- same
 pub record OnlyAt (layout : Layout) (row : ℕ) (side : Bool) (old new : List ℕ) : Type 0 where
   pub size : length new ≡ length old
   pub header : part 0 8 new ≡ part 0 8 old
   pub others : (r : ℕ) (s : Bool) → ((r ≡ row) × (s ≡ side) → ⊥) → slots layout new r s ≡ slots layout old r s
+  pub behind : drop (slots_end layout) new ≡ drop (slots_end layout) old
 
 -- this slot alone may have changed: it is as before, or closed, or open with these octets
 pub record Rewrites (layout : Layout) (row : ℕ) (side : Bool) (octets old new : List ℕ) : Type 0 where
@@ -78,3 +83,20 @@ after_rewrite was_open t = after_stable 1 (after_stable 63 (after_closing was_op
 abbrev pub rewrite_calls : Bool → ℕ
 rewrite_calls false = 4
 rewrite_calls true = 6
+
+-- a row can be written into this slot: the disk is large enough and at rest, and tells whether the slot is open
+pub record IsWritable (tally : Tally) (image : Option (List ℕ)) (may_leave : List ℕ → Type 0) (row : ℕ) (side is_open : Bool) : Type 0 where
+  pub size : 204800 ≤ tally.size
+  pub quiet : IsQuiet tally image may_leave
+  pub tells : TellsOpen format_1 row side is_open image
+
+-- since the last `begin` a crash leaves the image from before, with this slot as it was, closed, or with the octets
+abbrev pub LeavesRewritten : ℕ → Bool → List ℕ → Option (List ℕ) → (List ℕ → Type 0) → Type 0
+LeavesRewritten row side octets image left = (c : List ℕ) → left c → (d : List ℕ) × (image ≡ Some d) × Rewrites format_1 row side octets d c
+
+-- the slot is rewritten with octets that spell this row under this generation, at each moment and where it is done
+pub record Writes (row : ℕ) (side : Bool) (value : Row) (number : ℕ) (image new : Option (List ℕ)) (left : List ℕ → Type 0) (is_done : Bool) : Type 0 where
+  pub octets : List ℕ
+  pub spelled : Spelled octets value number
+  pub moments : LeavesRewritten row side octets image left
+  pub done : is_done ≡ true → Becomes (Rewritten format_1 row side octets) image new

@@ -4,8 +4,8 @@ ghost use Rattle.gp_base.specs.Outside.{Rose};
 ghost use Rattle.gp_disk.specs.Disk.{IsQuiet, after_begin};
 ghost use Rattle.gp_disk.specs.Fuse.{burnt, lit, Foretold};
 ghost use Rattle.gp_store.specs.Image.{format_1};
-ghost use Rattle.gp_store.specs.Writes.{Rewritten, Becomes, after_rewrite, rewrite_calls};
-ghost use Rattle.gp_store.specs.Commit.{HasReason, OnMade, OnNotMade, OnDiskFault, halted_after, undecided_after, last_after, RunsOnce, WritesAlone, IsWritable, LeavesRewritten, Writes};
+ghost use Rattle.gp_store.specs.Writes.{Rewritten, Becomes, IsWritable, LeavesRewritten, Writes, after_rewrite, rewrite_calls};
+ghost use Rattle.gp_store.specs.Commit.{HasReason, OnMade, OnNotMade, OnDiskFault, halted_after, undecided_after, last_after, RunsOnce, WritesAlone, KeepsBehind};
 
 use crate::codec::spell;
 use crate::fault::CommitFault;
@@ -38,9 +38,10 @@ pub struct Stale {
 // Rewrites one slot in a run of calls of its own.
 fn rewrite<D: Disk>(disk: &mut D, slot: Slot, is_open: bool, octets: &[u8]) -> Result<(), Failed>
     requires row { slot.row < 1024 }
-    requires behind { length octets.now ≡ 63 }
+    requires octets { length octets.now ≡ 63 }
     requires writable { IsWritable (D.tally disk.old) (D.image disk.old) (D.may_leave disk.old) slot.row slot.odd is_open }
     ensures moments { LeavesRewritten slot.row slot.odd octets.now (D.image disk.old) (D.left disk.new) }
+    ensures behind { KeepsBehind (D.image disk.old) (D.left disk.new) }
     ensures written { OnOk result (Becomes (Rewritten format_1 slot.row slot.odd octets.now) (D.image disk.old) (D.image disk.new)) }
     ensures quiet { OnOk result (IsQuiet (D.tally disk.new) (D.image disk.new) (D.may_leave disk.new)) }
     ensures run { RunsOnce (D.tally disk.old) (D.tally disk.new) }
@@ -68,6 +69,7 @@ pub fn write_row<D: Disk>(
     requires writable { marks.old.halted ≡ false → IsWritable (D.tally disk.old) (D.image disk.old) (D.may_leave disk.old) at stale.odd stale.is_open }
     ensures reason { HasReason result marks.old.halted ⊥ marks.old.last }
     ensures writes { OnMade result (Writes at stale.odd row.now (marks.old.last + 1) (D.image disk.old) (D.image disk.new) (D.left disk.new) (is_ok result)) }
+    ensures behind { OnMade result (KeepsBehind (D.image disk.old) (D.left disk.new)) }
     ensures quiet { OnOk result (IsQuiet (D.tally disk.new) (D.image disk.new) (D.may_leave disk.new)) }
     ensures run { OnMade result (RunsOnce (D.tally disk.old) (D.tally disk.new)) }
     ensures tally { OnOk result (D.tally disk.new ≡ after_rewrite stale.is_open (after_begin (D.tally disk.old))) }

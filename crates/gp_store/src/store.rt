@@ -4,7 +4,7 @@ ghost use Rattle.gp_base.specs.Outside.{Rose};
 ghost use Rattle.gp_disk.specs.Disk.{IsQuiet};
 ghost use Rattle.gp_disk.specs.Fuse.{lit, burnt, Foretold};
 ghost use Rattle.gp_rows.specs.Rows.{IsBelow, IsNewPair, with_floor, retired_row, raised, retired};
-ghost use Rattle.gp_store.specs.Commit.{HasReason, OnMade, OnNotMade, OnDiskFault, halted_after, undecided_after, last_after, RunsOnce, Survives, Stands, WritesAlone, Burns};
+ghost use Rattle.gp_store.specs.Commit.{HasReason, OnMade, OnNotMade, OnDiskFault, halted_after, undecided_after, last_after, RunsOnce, Survives, KeepsBehind, Stands, WritesAlone, Burns};
 ghost use Rattle.gp_store.specs.declared.fault.StoreFault.TheVariants.{DiskFault as DiskHasFailed};
 ghost use Rattle.gp_store.specs.Image.{HoldsRows, HasLast};
 ghost use Rattle.gp_store.specs.Kept.{IsTold};
@@ -164,6 +164,7 @@ impl<D: Disk> Store<D> {
         ensures rows_kept { OnErr result (self.new.rows ≡ self.old.rows) }
         ensures moments { OnMade result ((at : ℕ) × (value : _) × PairsAs self.old.rows row (self.old.last + 1) at value
             × Survives (D.left self.new.disk) self.old.rows (with_row self.old.rows at value) self.old.last) }
+        ensures behind { OnMade result (KeepsBehind (D.image self.old.disk) (D.left self.new.disk)) }
         ensures stands { OnOk result (Stands (D.may_leave self.new.disk) self.new.rows (self.old.last + 1)) }
         ensures last { self.new.last ≡ last_after result self.old.last }
         ensures halted { self.new.halted ≡ halted_after result self.old.halted }
@@ -195,6 +196,7 @@ impl<D: Disk> Store<D> {
         ensures rows_kept { OnErr result (self.new.rows ≡ self.old.rows) }
         ensures moments { OnMade result ((value : _) × PairsAs self.old.rows row (self.old.last + 1) at value
             × Survives (D.left self.new.disk) self.old.rows (with_row self.old.rows at value) self.old.last) }
+        ensures behind { OnMade result (KeepsBehind (D.image self.old.disk) (D.left self.new.disk)) }
         ensures stands { OnOk result (Stands (D.may_leave self.new.disk) self.new.rows (self.old.last + 1)) }
         ensures last { self.new.last ≡ last_after result self.old.last }
         ensures halted { self.new.halted ≡ halted_after result self.old.halted }
@@ -233,6 +235,7 @@ impl<D: Disk> Store<D> {
         ensures rows_kept { OnErr result (self.new.rows ≡ self.old.rows) }
         ensures moments { OnMade result ((at : ℕ) × (value : _) × PairsAs self.old.rows row (self.old.last + 1) at value
             × Survives (D.left self.new.disk) self.old.rows (with_row self.old.rows at value) self.old.last) }
+        ensures behind { OnMade result (KeepsBehind (D.image self.old.disk) (D.left self.new.disk)) }
         ensures stands { OnOk result (Stands (D.may_leave self.new.disk) self.new.rows (self.old.last + 1)) }
         ensures last { self.new.last ≡ last_after result self.old.last }
         ensures halted { self.new.halted ≡ halted_after result self.old.halted }
@@ -277,6 +280,7 @@ impl<D: Disk> Store<D> {
         ensures rows { OnOk result (self.new.rows ≡ raised self.old.rows at counter) }
         ensures rows_kept { OnErr result (self.new.rows ≡ self.old.rows) }
         ensures moments { OnMade result (Survives (D.left self.new.disk) self.old.rows (raised self.old.rows at counter) self.old.last) }
+        ensures behind { OnMade result (KeepsBehind (D.image self.old.disk) (D.left self.new.disk)) }
         ensures stands { OnOk result (Stands (D.may_leave self.new.disk) (raised self.old.rows at counter) (self.old.last + 1)) }
         ensures last { self.new.last ≡ last_after result self.old.last }
         ensures halted { self.new.halted ≡ halted_after result self.old.halted }
@@ -310,6 +314,7 @@ impl<D: Disk> Store<D> {
         ensures rows { OnOk result (self.new.rows ≡ retired self.old.rows at counter) }
         ensures rows_kept { OnErr result (self.new.rows ≡ self.old.rows) }
         ensures moments { OnMade result (Survives (D.left self.new.disk) self.old.rows (retired self.old.rows at counter) self.old.last) }
+        ensures behind { OnMade result (KeepsBehind (D.image self.old.disk) (D.left self.new.disk)) }
         ensures stands { OnOk result (Stands (D.may_leave self.new.disk) (retired self.old.rows at counter) (self.old.last + 1)) }
         ensures last { self.new.last ≡ last_after result self.old.last }
         ensures halted { self.new.halted ≡ halted_after result self.old.halted }

@@ -3,7 +3,8 @@ use Rattle.std.proofs.lemmas.Result.{err_from_is_err_and}
 use Rattle.gp_rows.specs.declared.row.Row.{Row}
 use Rattle.gp_rows.specs.Rows.{IsNewPair}
 use Rattle.gp_store.specs.declared.commit.Stale.{Stale}
-use Rattle.gp_store.specs.Commit.{Survives, Writes}
+use Rattle.gp_store.specs.Writes.{Writes}
+use Rattle.gp_store.specs.Commit.{Survives}
 use Rattle.gp_store.specs.Pairing.{PairsAs, with_row}
 use Rattle.gp_store.proofs.Stored.{with_row_end, orders_after, on_made_by, rows_of}
 use Rattle.gp_store.proofs.AtEnd.{end_writable, end_survives, end_stands, end_ready, change_at_end, added_value}
@@ -99,3 +100,9 @@ pub write_row-requires-clause-writable : goal.write_row-requires-clause-writable
 write_row-requires-clause-writable g c = λ running.
     let s = c.self.inside in
     end_writable (g.D.Disk.tally s.disk) (g.D.Disk.may_leave s.disk) (g.D.Disk.image s.disk) s.table s.stale.items s.marks.last c.count-at.result (c.self.invariant.ready running) c.count-at.ensures.count
+
+pub returns-in_err-write_row-clause-behind : goal.returns-in_err-write_row-clause-behind
+returns-in_err-write_row-clause-behind g c = let p = err_from_is_err_and c.from_residual.result c.from_residual.ensures.1 in rw (p.1, p.2, ← c.self.view_is) c.in_err-write_row.ensures.behind
+
+pub returns-clause-behind : goal.returns-clause-behind
+returns-clause-behind g c = rw (← c.self.view_is) c.in_ok-write_row.ensures.behind

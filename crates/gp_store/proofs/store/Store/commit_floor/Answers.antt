@@ -3,7 +3,8 @@ use Rattle.std.proofs.lemmas.Option.{slice_get_within, slice_get_read}
 use Rattle.std.proofs.lemmas.Result.{err_from_is_err_and}
 use Rattle.std.proofs.lemmas.List.{length-set}
 use Rattle.gp_rows.specs.Rows.{with_floor, raised}
-use Rattle.gp_store.specs.Commit.{Survives, Writes}
+use Rattle.gp_store.specs.Writes.{Writes}
+use Rattle.gp_store.specs.Commit.{Survives}
 use Rattle.gp_store.proofs.Stored.{there_writable, there_survives, there_stands, there_ready, change_at_changed, length-changed, orders_after, on_made}
 use Rattle.gp_store.proofs.store.Store.commit_floor.Goals as goal
 
@@ -71,3 +72,9 @@ write_row-requires-clause-writable g c = λ running.
     let h = slice_get_within s.table c.args.at c.row.result.now c.row.ensures.row in
     let stale_there : slice_get s.stale.items c.args.at ≡ Some c.index-stale.result.now = slice_get_read s.stale.items (length s.stale.items) c.args.at c.index-stale.result.now refl (omega (arith, h, c.self.invariant.as_many)) c.index-stale.ensures in
     there_writable (g.D.Disk.tally s.disk) (g.D.Disk.image s.disk) (g.D.Disk.may_leave s.disk) s.table s.stale.items s.marks.last c.args.at c.index-stale.result.now (c.self.invariant.ready running) stale_there
+
+pub returns-in_err-write_row-clause-behind : goal.returns-in_err-write_row-clause-behind
+returns-in_err-write_row-clause-behind g c = let p = err_from_is_err_and c.from_residual.result c.from_residual.ensures.1 in rw (p.1, p.2, ← c.self.view_is) c.in_err-write_row.ensures.behind
+
+pub returns-clause-behind : goal.returns-clause-behind
+returns-clause-behind g c = rw (← c.self.view_is) c.in_ok-write_row.ensures.behind
