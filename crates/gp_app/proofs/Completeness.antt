@@ -3,7 +3,7 @@ use Rattle.std.proofs.Common.{◌≡◌, ℕ, ◌≤◌, ◌⊎◌, inl, inr, Li
 use Rattle.std.specs.Io.KnownBytes.{Consumes}
 use Rattle.std.proofs.lemmas.List.{append-nil}
 use Rattle.gp_base.specs.Outside.{Rose}
-use Rattle.gp_store.specs.Formatting.{IsBegun}
+use Rattle.gp_store.specs.Formatting.{HasOpenGate}
 use Rattle.gp_app.specs.declared.status.DiskReason.TheVariants.{DiskShort, NotFormatted, AlreadyFormatted, SlotForm}
 use Rattle.gp_app.specs.declared.status.Status.{Status}
 use Rattle.gp_app.specs.declared.status.Status.TheVariants.{Done, BadLine, Usage, ReadFault, WriteFault, DiskFault, NoMemory, DiskRefused, Worn, TooLong}
@@ -40,7 +40,7 @@ completes listing status left left' written written' a b c d h k = λ input e go
     by_status listing status left left' written written' a b c d input e h k good no_read no_write
 
 format_by : (status : Status) (size : ℕ) (image : Option (List ℕ)) (before after since : List ℕ → Type 0) (a b : ℕ) (d : List ℕ) →
-    FormatLeaves status size image before after since → DiskCount status a b → 204800 ≤ size → image ≡ Some d → (IsBegun d → ⊥) → (Rose a b → ⊥) → status ≡ Done
+    FormatLeaves status size image before after since → DiskCount status a b → 204800 ≤ size → image ≡ Some d → (HasOpenGate d → ⊥) → (Rose a b → ⊥) → status ≡ Done
 format_by Done size image before after since a b d h k room e fresh none = refl
 format_by (DiskRefused DiskShort) size image before after since a b d h k room e fresh none = absurd (omega (arith, h, room))
 format_by (DiskRefused AlreadyFormatted) size image before after since a b d h k room e fresh none = absurd (fresh (h.1 d e))

@@ -6,7 +6,8 @@ use Rattle.gp_disk.specs.Disk.{part, put}
 use Rattle.gp_store.specs.Slots.{newer, newest}
 use Rattle.gp_store.specs.Image.{OPEN, IsFormatted, HoldsRow, HoldsRows, slots, format_1, gate_at}
 use Rattle.gp_store.specs.Writes.{GrowsBy, Becomes}
-use Rattle.gp_store.specs.Formatting.{SameGate, Cleared, Named, SameBehind, Opened, IsBlank, LeavesNoRows}
+use Rattle.gp_store.specs.FormatWrites.{SameGate, Cleared, Named, SameBehind, Opened}
+use Rattle.gp_store.specs.Formatting.{IsBlank, LeavesNoRows}
 use Rattle.gp_store.proofs.Parts.{octet-outside, part-put, length-put, Outside-put, octet-part}
 use Rattle.gp_store.proofs.Images.{slots_at_closed}
 use Rattle.gp_store.proofs.Grows.{becomes_put, became_from}

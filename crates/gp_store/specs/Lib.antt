@@ -8,6 +8,7 @@ pub mod Kept
 pub mod Reading
 pub mod Untouched
 pub mod Recovery
+pub mod FormatWrites
 pub mod Formatting
 pub mod Pairing
 pub mod Held

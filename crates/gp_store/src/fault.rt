@@ -13,7 +13,7 @@ pub enum StoreFault {
     /// The header doesn't say that the disk is formatted.
     #[error("NotFormatted")]
     NotFormatted,
-    /// The disk is formatted already, or begins to be.
+    /// The gate of the disk's header, octet 0, is open, whatever stands behind it.
     #[error("AlreadyFormatted")]
     AlreadyFormatted,
     /// This is the smallest open slot that is ill.
@@ -27,7 +27,9 @@ pub enum StoreFault {
 /// A refusal, with the disk that was handed in.
 #[derive(Debug, Drop)]
 pub struct Refused<D> {
+    /// Why it is refused.
     pub fault: StoreFault,
+    /// The disk. No octet was written on it.
     pub disk: D,
 }
 

@@ -9,7 +9,8 @@ ghost use Rattle.gp_store.specs.Recovery.{Told, OnBegun, OnNotBegun};
 ghost use Rattle.gp_store.specs.Commit.{RunsOnce};
 ghost use Rattle.gp_store.specs.Untouched.{OnlyReads, IsKeptAsIs, GoesOn};
 ghost use Rattle.gp_store.specs.Writes.{GrowsBy, Becomes, after_stable};
-ghost use Rattle.gp_store.specs.Formatting.{SameGate, Cleared, Named, SameBehind, Opened, IsBegun, IsBlank, RefusesFormat, OnRefused, IsLeftAlone, LeavesNoRows};
+ghost use Rattle.gp_store.specs.FormatWrites.{SameGate, Cleared, Named, SameBehind, Opened};
+ghost use Rattle.gp_store.specs.Formatting.{HasOpenGate, IsBlank, RefusesFormat, OnRefused, IsLeftAlone, LeavesNoRows};
 
 use crate::fault::StoreFault;
 use crate::layout::{OPEN, SIZE};
@@ -27,7 +28,7 @@ const NAME: [u8; 63] = [
 // Reads whether the header's gate is open.
 fn read_gate<D: Disk>(disk: &mut D) -> Result<bool, Failed>
     requires size { 204800 ≤ (D.tally disk.old).size }
-    ensures gate { IfOk result (λ is_open. Told (D.image disk.old) (λ d. IsTrue is_open ↔ IsBegun d)) }
+    ensures gate { IfOk result (λ is_open. Told (D.image disk.old) (λ d. IsTrue is_open ↔ HasOpenGate d)) }
     ensures kept { IsKeptAsIs (D.image disk.old) (D.image disk.new) (D.may_leave disk.old) (D.may_leave disk.new) (D.left disk.old) (D.left disk.new) }
     ensures reads { OnlyReads (D.tally disk.old) (D.tally disk.new) }
     ensures good { OnOk result (D.faults disk.new ≡ D.faults disk.old) }
@@ -106,7 +107,7 @@ fn write_empty<D: Disk>(disk: &mut D) -> Result<(), Failed>
     requires octets { (D.tally disk.old).octets ≡ 0 }
     requires settled { (D.tally disk.old).unsettled ≡ false }
     requires quiet { IsQuiet (D.tally disk.old) (D.image disk.old) (D.may_leave disk.old) }
-    requires closed { Told (D.image disk.old) (λ d. IsBegun d → ⊥) }
+    requires closed { Told (D.image disk.old) (λ d. HasOpenGate d → ⊥) }
     ensures since { (c : List ℕ) → D.left disk.new c → LeavesNoRows (D.left disk.old) c }
     ensures written { OnOk result (Told (D.image disk.new) (λ d. HoldsRows d [])) }
     ensures blank { OnOk result (Told (D.image disk.new) IsBlank) }
@@ -125,19 +126,22 @@ fn write_empty<D: Disk>(disk: &mut D) -> Result<(), Failed>
 
 /// Writes an empty image, in one run of calls.
 ///
-/// A disk of fewer than 204,800 octets is DiskShort, and one that is formatted already, or begins to be, is
-/// AlreadyFormatted. Nothing is written there. A crash during the call leaves what it might have left before, or a disk
-/// that isn't formatted, or the empty image.
+/// A disk of fewer than 204,800 octets is DiskShort, and one whose octet 0, the gate of its header, is A5 and so open,
+/// whatever stands behind it, is AlreadyFormatted. Nothing is written there. DiskFault comes behind DiskShort, where the
+/// disk has failed.
+///
+/// A crash during the call leaves what it might have left before, or a disk that isn't formatted, or the empty image:
+/// that gate is opened last. Where a formatting that was cut has left it closed, `format` writes the image anew.
 pub fn format<D: Disk>(disk: &mut D) -> Result<(), StoreFault>
     ensures empty { OnOk result ((c : List ℕ) → D.may_leave disk.new c → HoldsRows c []) }
     ensures blank { OnOk result ((c : List ℕ) → D.may_leave disk.new c → IsBlank c) }
     ensures large { OnOk result (204800 ≤ (D.tally disk.old).size) }
     ensures refuses { IfErr result (λ fault. RefusesFormat fault (D.tally disk.old).size (D.image disk.old)) }
-    ensures formats { OnOk result (Told (D.image disk.old) (λ d. IsBegun d → ⊥)) }
+    ensures formats { OnOk result (Told (D.image disk.old) (λ d. HasOpenGate d → ⊥)) }
     ensures since { IfErr result (λ fault. OnBegun fault ((c : List ℕ) → D.left disk.new c → LeavesNoRows (D.may_leave disk.old) c)) }
     ensures since_ok { OnOk result ((c : List ℕ) → D.left disk.new c → LeavesNoRows (D.may_leave disk.old) c) }
     ensures refused { IfErr result (λ fault. OnRefused fault (IsLeftAlone (D.tally disk.old) (D.tally disk.new) (D.may_leave disk.old) (D.left disk.new))) }
-    ensures already { IfErr result (λ fault. OnBegun fault ((d : List ℕ) → D.image disk.old ≡ Some d → IsBegun d → (c : List ℕ) → D.left disk.new c → D.may_leave disk.old c)) }
+    ensures already { IfErr result (λ fault. OnBegun fault ((d : List ℕ) → D.image disk.old ≡ Some d → HasOpenGate d → (c : List ℕ) → D.left disk.new c → D.may_leave disk.old c)) }
     ensures untouched { IfErr result (λ fault. OnNotBegun fault (disk.new ≡ disk.old)) }
     ensures run { MatchResult result
         (λ _. RunsOnce (D.tally disk.old) (D.tally disk.new))
