@@ -7,7 +7,8 @@ use Rattle.gp_base.specs.declared.identity.KeyKind.TheVariants.{Nwk, Group, Deri
 use Rattle.gp_base.specs.declared.identity.Mode.{Mode}
 use Rattle.gp_base.specs.declared.identity.Mode.TheVariants.{Derived, Commissioned, Unicast}
 use Rattle.gp_rows.specs.declared.row.Row.{Row}
-use Rattle.gp_store.specs.Slot.{Shows, kind_number, level_number, mode_number, live_number}
+use Rattle.gp_base.specs.Identity.{kind_number, mode_number}
+use Rattle.gp_store.specs.Slot.{Shows, level_number, live_number}
 use Rattle.gp_store.specs.Slots.{newer, newest, IsFormed}
 use Rattle.gp_store.specs.Image.{slots, format_1, HoldsRow, HoldsRows}
 use Rattle.gp_store.proofs.Consistent.{newest_is_open}

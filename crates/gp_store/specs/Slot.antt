@@ -4,10 +4,7 @@ use Rattle.std.specs.Prelude.{◌≡◌, ℕ, max, Bool, true, false, List, repl
 use Rattle.std.specs.Int.{w16, w32, w64, from_le_bytes}
 use Rattle.gp_base.specs.declared.identity.Level.{Level}
 use Rattle.gp_base.specs.declared.identity.Level.TheVariants.{Two, Three}
-use Rattle.gp_base.specs.declared.identity.KeyKind.{KeyKind}
-use Rattle.gp_base.specs.declared.identity.KeyKind.TheVariants.{Nwk, Group, DerivedGroup, OutOfBox, DerivedIndividual}
-use Rattle.gp_base.specs.declared.identity.Mode.{Mode}
-use Rattle.gp_base.specs.declared.identity.Mode.TheVariants.{Derived, Commissioned, Unicast}
+use Rattle.gp_base.specs.Identity.{kind_number, mode_number}
 use Rattle.gp_disk.specs.Disk.{part}
 use Rattle.gp_rows.specs.declared.row.Row.{Row}
 
@@ -59,22 +56,12 @@ floor octets = from_le_bytes w32 (part 43 4 octets)
 unfoldable pub rest : List ℕ → List ℕ
 rest octets = part 47 16 octets
 
+-- the number of a level
 abbrev pub level_number : Level → ℕ
 level_number Two = 2
 level_number Three = 3
 
-abbrev pub kind_number : KeyKind → ℕ
-kind_number Nwk = 1
-kind_number Group = 2
-kind_number DerivedGroup = 3
-kind_number OutOfBox = 4
-kind_number DerivedIndividual = 7
-
-abbrev pub mode_number : Mode → ℕ
-mode_number Derived = 1
-mode_number Commissioned = 2
-mode_number Unicast = 3
-
+-- the number of whether a pairing is live
 abbrev pub live_number : Bool → ℕ
 live_number false = 0
 live_number true = 1

@@ -3,7 +3,8 @@ use Rattle.std.specs.Prelude.{◌≡◌, ◌<◌, ◌≤◌, ◌⊎◌, ℕ, ◌
 use Rattle.gp_base.specs.declared.identity.Level.{Level}
 use Rattle.gp_base.specs.declared.identity.KeyKind.{KeyKind}
 use Rattle.gp_base.specs.declared.identity.Mode.{Mode}
-use Rattle.gp_store.specs.Slot.{generation, source, key, kind, level, mode, live, order, rest, kind_number, level_number, mode_number, live_number}
+use Rattle.gp_base.specs.Identity.{kind_number, mode_number}
+use Rattle.gp_store.specs.Slot.{generation, source, key, kind, level, mode, live, order, rest, level_number, live_number}
 
 -- the octets behind the gate of the even (false) or odd (true) slot of a row, where that gate is open
 abbrev pub Slots : Type 0
@@ -40,7 +41,7 @@ pub record IsSameOrder (one other : List ℕ) : Type 0 where
 
 -- generation, order, SrcID and the last octets are as they have to be
 pub record IsNumbered (octets : List ℕ) : Type 0 where
-  -- the generation or the order isn't 0, and the order isn't above the generation
+  -- neither the generation nor the order is 0, and the order isn't above the generation
   pub numbered : 0 < generation octets
   pub ordered : 0 < order octets
   pub order_within : order octets ≤ generation octets

@@ -2,7 +2,8 @@
 ghost use Rattle.std.specs.Prelude.{◌≡◌, ◌<◌, ◌≤◌, ◌+◌, ◌^◌, ◌++◌, ◌∷◌, [], length, replicate};
 ghost use Rattle.std.specs.Int.{w16, w32, w64, to_le_bytes};
 ghost use Rattle.arrayvec.specs.ArrayVec.{array_vec_len};
-ghost use Rattle.gp_store.specs.Slot.{Spelled, kind_number, level_number, mode_number, live_number};
+ghost use Rattle.gp_base.specs.Identity.{kind_number, mode_number};
+ghost use Rattle.gp_store.specs.Slot.{Spelled, level_number, live_number};
 
 use arrayvec::ArrayVec;
 use gp_base::Level;

@@ -2,10 +2,11 @@
 ghost use Rattle.std.specs.Prelude.{◌≡◌, ◌↔◌, ◌+◌, ◌<◌, ◌≤◌, length, IsTrue, MatchOption, IfSome, slice_index, Bool, replicate};
 ghost use Rattle.std.specs.Int.{w16, w32, w64, from_le_bytes};
 ghost use Rattle.gp_base.specs.declared.identity.KeyKind.{KeyKind as Kind};
-ghost use Rattle.gp_base.specs.declared.identity.Mode.{Mode as AMode};
-ghost use Rattle.gp_base.specs.declared.identity.Level.{Level as ALevel};
+ghost use Rattle.gp_base.specs.declared.identity.Mode.{Mode as TunnelMode};
+ghost use Rattle.gp_base.specs.declared.identity.Level.{Level as SecurityLevel};
+ghost use Rattle.gp_base.specs.Identity.{kind_number, mode_number};
 ghost use Rattle.gp_disk.specs.Disk.{part};
-ghost use Rattle.gp_store.specs.Slot.{generation, source, key, kind, level, mode, group, device, live, order, floor, rest, kind_number, level_number, mode_number, live_number, Shows};
+ghost use Rattle.gp_store.specs.Slot.{generation, source, key, kind, level, mode, group, device, live, order, floor, rest, level_number, live_number, Shows};
 ghost use Rattle.gp_store.specs.Slots.{IsFormed, IsNumbered, HasKinds};
 
 use gp_base::{Key, KeyKind, Level, Mode, Src};
@@ -72,7 +73,7 @@ fn kind_of(number: u8) -> Option<KeyKind>
 }
 
 fn level_of(number: u8) -> Option<Level>
-    ensures { MatchOption result ((l : ALevel) → level_number l ≡ number → ⊥) (λ l. level_number l ≡ number) }
+    ensures { MatchOption result ((l : SecurityLevel) → level_number l ≡ number → ⊥) (λ l. level_number l ≡ number) }
 {
     match number {
         2 => Some(Level::Two),
@@ -82,7 +83,7 @@ fn level_of(number: u8) -> Option<Level>
 }
 
 fn mode_of(number: u8) -> Option<Mode>
-    ensures { MatchOption result ((m : AMode) → mode_number m ≡ number → ⊥) (λ m. mode_number m ≡ number) }
+    ensures { MatchOption result ((m : TunnelMode) → mode_number m ≡ number → ⊥) (λ m. mode_number m ≡ number) }
 {
     match number {
         1 => Some(Mode::Derived),
