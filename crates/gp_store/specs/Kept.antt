@@ -1,4 +1,4 @@
--- What a store keeps of its disk.
+-- What a store keeps of its disk. No public clause cites this file.
 use Rattle.std.specs.Prelude.{◌≡◌, ◌≤◌, ℕ, false, List, Option, Some, length, slice_get, is_some}
 use Rattle.gp_disk.specs.Disk.{Tally, IsQuiet}
 use Rattle.gp_rows.specs.declared.row.Row.{Row}

@@ -1,4 +1,4 @@
--- How far a reading of the slots has come.
+-- How far a reading of the slots has come. No public clause cites this file.
 use Rattle.std.specs.Prelude.{◌≡◌, ◌<◌, ◌≤◌, ◌⊎◌, ℕ, Bool, true, false, List, Option, Some, None, length, slice_get, is_some, if◌then◌else◌}
 use Rattle.gp_rows.specs.declared.row.Row.{Row}
 use Rattle.gp_store.specs.declared.found.Found.{Found}

@@ -11,8 +11,8 @@ use Rattle.gp_store.specs.Commit.{RunsOnce}
 abbrev pub Told : Option (List ℕ) → (List ℕ → Type 0) → Type 0
 Told image P = (d : List ℕ) → image ≡ Some d → P d
 
--- Each refusal comes exactly where its line holds, but for want of memory: the disk is too small; the header isn't that of
--- a formatted disk; this is the smallest ill slot. A fault of the disk comes before the last two.
+-- Each refusal comes only where its line holds: the disk is too small; the header isn't that of a formatted disk; this is
+-- the smallest ill slot. The line of NoMemory says nothing, and that of DiskFault only that the size was tested before.
 abbrev pub Refuses : StoreFault → ℕ → Option (List ℕ) → Type 0
 Refuses NoMemory size image = Unit {0}
 Refuses DiskShort size image = size < 204800

@@ -37,9 +37,10 @@ fn newest_of(even: &ReadSlot, odd: &ReadSlot) -> Option<Row>
     }
 }
 
-/// Reads row `at` of the rows that the disk holds, by two calls; None where it holds fewer.
+/// Reads row `at` of the rows that the disk holds, by at most two calls; None where it holds fewer.
 ///
-/// What a read gives holds rows. Nothing is written, and no memory is taken.
+/// What a read gives holds rows. Nothing is written, and no memory is taken. Failed comes where a call of the disk has
+/// failed; for `at` of 1,024 or more there is none.
 pub fn held<D: Disk>(disk: &mut D, at: u16) -> Result<Option<Row>, Failed>
     requires { Told (D.image disk.old) HoldsSome }
     ensures row { IfOk result (λ row. Told (D.image disk.old) (λ d. IsRowOf d at row)) }

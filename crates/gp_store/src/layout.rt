@@ -9,9 +9,6 @@ pub const OPEN: u8 = 0xA5;
 /// The octets of an image.
 pub const SIZE: u64 = 204_800;
 
-/// The octets of a slot behind its gate.
-pub const BEHIND: usize = 63;
-
 /// The most rows that there are.
 pub const ROWS: u16 = 1024;
 

@@ -78,8 +78,9 @@ fn stored<D: Disk>(disk: D, found: Found) -> Store<D>
 impl<D: Disk> Store<D> {
     /// Reads the rows of a disk after a restart. It needs memory for 1,024 rows, and writes nothing.
     ///
-    /// A disk of fewer than 204,800 octets is DiskShort, one whose header isn't that of a formatted disk NotFormatted, and
-    /// SlotForm names the smallest open slot that breaks a rule. A refusal hands the disk back.
+    /// NoMemory comes first, where there isn't that memory. A disk of fewer than 204,800 octets is DiskShort, one whose
+    /// header isn't that of a formatted disk NotFormatted, and SlotForm names the smallest open slot that breaks a rule.
+    /// DiskFault comes behind DiskShort, where the disk has failed. A refusal hands the disk back.
     pub fn recover(alloc: Global, disk: D) -> Result<Store<D>, Refused<D>>
         ensures rows { IfOk result (λ store. Told (D.image disk) (λ d. HoldsRows d store.rows × HasLast d store.last)) }
         ensures stands { IfOk result (λ store. Stands (D.may_leave store.disk) store.rows store.last) }
@@ -153,7 +154,9 @@ impl<D: Disk> Store<D> {
     /// Adds the pairing of a new pair of SrcID and key, or revives that of a pair that is there, and gives its number. It
     /// sets the order itself, and keeps the greater floor. The SrcID is pairable, and the row is live.
     ///
-    /// The answers are tested in this order: Halted, TableFull, Worn. After Worn or DiskFault the store is halted.
+    /// The answers are tested in this order: Halted after an earlier Worn or DiskFault; TableFull where a new pair meets
+    /// 1,024 rows; Worn where the last generation is the greatest there is; DiskFault where the disk has failed. After
+    /// Worn and DiskFault the store is halted.
     pub fn commit_row(&mut self, row: Row) -> Result<u16, CommitFault>
         requires above { 1 ≤ row.src.0 }
         requires below { row.src.0 ≤ 0xFFFFFFF8 }
@@ -274,6 +277,9 @@ impl<D: Disk> Store<D> {
     }
 
     /// Makes this counter, which is above the row's floor, the floor.
+    ///
+    /// The answers are tested in this order: Halted after an earlier Worn or DiskFault; Worn where the last generation is
+    /// the greatest there is; DiskFault where the disk has failed. After Worn and DiskFault the store is halted.
     pub fn commit_floor(&mut self, at: u16, counter: u32) -> Result<(), CommitFault>
         requires { IsBelow self.old.rows at counter }
         ensures reason { HasReason result self.old.halted ⊥ self.old.last }
@@ -308,6 +314,9 @@ impl<D: Disk> Store<D> {
     }
 
     /// Unpairs the row by a frame with this counter, which is above the row's floor and becomes the floor.
+    ///
+    /// The answers are tested in this order: Halted after an earlier Worn or DiskFault; Worn where the last generation is
+    /// the greatest there is; DiskFault where the disk has failed. After Worn and DiskFault the store is halted.
     pub fn retire(&mut self, at: u16, counter: u32) -> Result<(), CommitFault>
         requires { IsBelow self.old.rows at counter }
         ensures reason { HasReason result self.old.halted ⊥ self.old.last }
