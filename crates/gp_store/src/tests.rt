@@ -1,4 +1,7 @@
 ghost use Rattle.std.specs.Prelude.{◌≡◌, ◌≤◌, true};
+ghost use Rattle.gp_disk.specs.Memory.{memory_image};
+ghost use Rattle.gp_store.specs.Image.{HoldsRows};
+ghost use Rattle.gp_store.specs.Recovery.{Told};
 
 use super::*;
 use gp_base::{Failed, Key, KeyKind, Level, Mode, Src};
@@ -41,7 +44,9 @@ fn pairing(key: u8) -> Row
     }
 }
 
-fn recovered(rt: &impl Abort, alloc: Global, disk: MemoryDisk) -> Store<MemoryDisk> {
+fn recovered(rt: &impl Abort, alloc: Global, disk: MemoryDisk) -> Store<MemoryDisk>
+    ensures { Told (memory_image result.disk) (λ d. HoldsRows d result.rows) }
+{
     match Store::recover(alloc, disk) {
         Ok(store) => store,
         Err(refused) => {
@@ -58,25 +63,35 @@ fn prepared(rt: &impl Abort, alloc: Global) -> Result<Store<MemoryDisk>, Fail> {
     let mut store = recovered(rt, alloc, disk);
     assert_eq!(rt; store.commit_row(pairing(1)), Ok(0));
     assert_eq!(rt; store.commit_row(pairing(2)), Ok(1));
-    assert_eq!(rt; raise(&mut store, 0, 8), Ok(()));
+    assert_eq!(rt; raise(rt, &mut store, 0, 8), Ok(()));
     Ok(store)
 }
 
-fn raise(store: &mut Store<MemoryDisk>, at: u16, counter: u32) -> Result<(), CommitFault> {
+fn raise(
+    rt: &impl Abort,
+    store: &mut Store<MemoryDisk>,
+    at: u16,
+    counter: u32,
+) -> Result<(), CommitFault> {
     if at >= store.rows().count() || store.rows().row(at).floor >= counter {
-        return Err(CommitFault::Halted);
+        panic!(rt; "no row {at} with a floor below {counter}");
     }
     store.commit_floor(at, counter)
 }
 
-fn retire(store: &mut Store<MemoryDisk>, at: u16, counter: u32) -> Result<(), CommitFault> {
+fn retire(
+    rt: &impl Abort,
+    store: &mut Store<MemoryDisk>,
+    at: u16,
+    counter: u32,
+) -> Result<(), CommitFault> {
     if at >= store.rows().count() || store.rows().row(at).floor >= counter {
-        return Err(CommitFault::Halted);
+        panic!(rt; "no row {at} with a floor below {counter}");
     }
     store.retire(at, counter)
 }
 
-fn make(store: &mut Store<MemoryDisk>, change: Change) -> Result<(), CommitFault> {
+fn make(rt: &impl Abort, store: &mut Store<MemoryDisk>, change: Change) -> Result<(), CommitFault> {
     match change {
         Change::New => match store.commit_row(pairing(3)) {
             Ok(_) => Ok(()),
@@ -86,8 +101,8 @@ fn make(store: &mut Store<MemoryDisk>, change: Change) -> Result<(), CommitFault
             Ok(_) => Ok(()),
             Err(fault) => Err(fault),
         },
-        Change::Floor => raise(store, 0, 100),
-        Change::Retire => retire(store, 1, 9),
+        Change::Floor => raise(rt, store, 0, 100),
+        Change::Retire => retire(rt, store, 1, 9),
     }
 }
 
@@ -119,7 +134,7 @@ fn broken(
     } else {
         store.arm_cut(1, calls);
     }
-    let answer = make(&mut store, change);
+    let answer = make(rt, &mut store, change);
     let shown = copy(alloc, store.rows())?;
     let mut disk = store.into_disk();
     disk.crash(way);
@@ -139,7 +154,7 @@ fn broken(
 fn each_call(rt: &impl Abort, alloc: Global, change: Change) -> Result<(), Fail> {
     let mut whole = prepared(rt, alloc)?;
     let before = copy(alloc, whole.rows())?;
-    assert_eq!(rt; make(&mut whole, change), Ok(()));
+    assert_eq!(rt; make(rt, &mut whole, change), Ok(()));
     let after = copy(alloc, whole.rows())?;
     assert_ne!(rt; before, after);
     for calls in 0..7 {
@@ -300,8 +315,8 @@ fn slot(generation: u8, key: u8, live: u8, order: u8, floor: u8) -> [u8; 64] {
 fn a_commit_writes_the_octets_of_its_slot(rt: HostRuntime) -> Result<(), Fail> {
     let alloc = rt.alloc();
     let mut store = prepared(&rt, alloc)?;
-    assert_eq!(rt; raise(&mut store, 0, 9), Ok(()));
-    assert_eq!(rt; retire(&mut store, 1, 10), Ok(()));
+    assert_eq!(rt; raise(&rt, &mut store, 0, 9), Ok(()));
+    assert_eq!(rt; retire(&rt, &mut store, 1, 10), Ok(()));
     assert_eq!(rt; store.commit_row(pairing(1)), Ok(0));
     let mut disk = store.into_disk();
     let mut header = [0; 64];
@@ -420,9 +435,9 @@ fn an_arming_falls_in_its_commit(rt: HostRuntime) -> Result<(), Fail> {
             store.arm_cut(2, 3);
         }
         assert!(rt; !store.due() && !store.stopped());
-        assert_eq!(rt; raise(&mut store, 0, 100), Ok(()));
+        assert_eq!(rt; raise(&rt, &mut store, 0, 100), Ok(()));
         assert!(rt; !store.due() && !store.stopped());
-        assert_eq!(rt; raise(&mut store, 0, 101), Err(CommitFault::DiskFault));
+        assert_eq!(rt; raise(&rt, &mut store, 0, 101), Err(CommitFault::DiskFault));
         assert!(rt; store.due());
         assert_eq!(rt; store.stopped(), !is_fault);
     }
@@ -435,8 +450,8 @@ fn a_halted_store_stays_so(rt: HostRuntime) -> Result<(), Fail> {
     let mut store = prepared(&rt, alloc)?;
     assert_eq!(rt; store.generation(), 3);
     store.arm_fault(1, 0);
-    assert_eq!(rt; raise(&mut store, 0, 100), Err(CommitFault::DiskFault));
-    assert_eq!(rt; raise(&mut store, 0, 100), Err(CommitFault::Halted));
+    assert_eq!(rt; raise(&rt, &mut store, 0, 100), Err(CommitFault::DiskFault));
+    assert_eq!(rt; raise(&rt, &mut store, 0, 100), Err(CommitFault::Halted));
     assert_eq!(rt; store.commit_row(pairing(3)), Err(CommitFault::Halted));
     assert_eq!(rt; store.generation(), 3);
     match store.undecided() {
@@ -445,6 +460,60 @@ fn a_halted_store_stays_so(rt: HostRuntime) -> Result<(), Fail> {
             assert_eq!(rt; row.floor, 100);
         }
         None => panic!(rt; "nothing is undecided"),
+    }
+    Ok(())
+}
+
+// The rows of a store that has two.
+fn two_rows(rt: &impl Abort, table: &Table) -> (Row, Row) {
+    if table.count() != 2 {
+        panic!(rt; "there aren't two rows");
+    }
+    (*table.row(0), *table.row(1))
+}
+
+// Each row is read from the disk as a recovery shows it.
+fn held_as_shown(rt: &impl Abort, alloc: Global, disk: MemoryDisk) {
+    let store = recovered(rt, alloc, disk);
+    let (first, second) = two_rows(rt, store.rows());
+    let mut disk = store.into_disk();
+    assert_eq!(rt; held(&mut disk, 0), Ok(Some(first)));
+    assert_eq!(rt; held(&mut disk, 1), Ok(Some(second)));
+    assert_eq!(rt; held(&mut disk, 2), Ok(None));
+    assert_eq!(rt; held(&mut disk, 1024), Ok(None));
+}
+
+#[test]
+fn a_row_is_held_as_the_store_shows_it(rt: HostRuntime) -> Result<(), Fail> {
+    let alloc = rt.alloc();
+    let store = prepared(&rt, alloc)?;
+    assert_eq!(rt; two_rows(&rt, store.rows()).0.floor, 8);
+    held_as_shown(&rt, alloc, store.into_disk());
+    for calls in 0..6 {
+        for way in 0..5 {
+            let mut store = prepared(&rt, alloc)?;
+            store.arm_fault(1, calls);
+            assert_eq!(rt; raise(&rt, &mut store, 0, 100), Err(CommitFault::DiskFault));
+            let mut disk = store.into_disk();
+            disk.crash(way);
+            held_as_shown(&rt, alloc, disk);
+        }
+    }
+    Ok(())
+}
+
+#[test]
+fn a_failing_read_of_a_row_is_told(rt: HostRuntime) -> Result<(), Fail> {
+    let alloc = rt.alloc();
+    for calls in 0..2 {
+        let store = recovered(&rt, alloc, prepared(&rt, alloc)?.into_disk());
+        let (first, _) = two_rows(&rt, store.rows());
+        let mut disk = store.into_disk();
+        disk.arm_fault(1, calls);
+        disk.begin();
+        assert_eq!(rt; held(&mut disk, 1024), Ok(None));
+        assert_eq!(rt; held(&mut disk, 0), Err(Failed));
+        assert_eq!(rt; held(&mut disk, 0), Ok(Some(first)));
     }
     Ok(())
 }
