@@ -5,13 +5,12 @@ use Rattle.std.specs.Int.{w16, to_le_bytes}
 use Rattle.std.proofs.lemmas.Bool.{ltb-false, le-ltb, eqb-false, ne_eqb}
 use Rattle.gp_commands.specs.declared.form.Form.{Form}
 use Rattle.gp_commands.specs.declared.form.Form.TheVariants as forms
-use Rattle.gp_commands.specs.declared.form.TheConstants.{REPORT, COMMISSIONING, REPLY, CHANNEL_REQUEST, CHANNEL_CONFIG}
 use Rattle.gp_commands.specs.declared.command.GpdCommand.{GpdCommand}
 use Rattle.gp_commands.specs.declared.command.GpdCommand.TheVariants.{Plain, Move, Step, Vector, Report, Commissioning, Reply, ChannelRequest, ChannelConfig, Other}
 use Rattle.gp_commands.specs.declared.command.CommandReason.{CommandReason}
 use Rattle.gp_commands.specs.declared.command.CommandReason.TheVariants.{Empty, Short}
 use Rattle.gp_base.specs.Field.{IsOctets, two_at, octet_at}
-use Rattle.gp_commands.specs.Forms.{form_of}
+use Rattle.gp_commands.specs.Forms.{report_id, commissioning_id, channel_request_id, reply_id, channel_config_id, form_of}
 use Rattle.gp_commands.specs.Report.{entries_reason}
 use Rattle.gp_commands.specs.Commissioning.{commissioning, commissioning_at}
 use Rattle.gp_commands.specs.Reply.{reply, reply_at}
@@ -112,19 +111,19 @@ reads (Move id rate rest) form widths = (forms.Move, record { form = form.0; fin
 reads (Step id size time rest) form widths = (forms.Step, record { form = form.0; fine = two_fine id size _; value = step_again id size time rest form.1 widths; filled = omega arith })
 reads (Vector id value rest) form widths = (forms.Vector, record { form = form; fine = two_fine id value rest; value = refl; filled = omega arith })
 reads (Report cluster records) form widths =
-    let b : List ℕ = REPORT ∷ (to_le_bytes w16 cluster ++ records) in
+    let b : List ℕ = report_id ∷ (to_le_bytes w16 cluster ++ records) in
     let field = number16_codec.again b 1 cluster records (record { rest = refl; within = omega arith }) widths in
     let within : ltb (length b) 3 ≡ false = le-ltb _ _ field.1.within in
     let entries = no_reason form.entries (length b) b 3 form.each (record { rest = field.1.rest ∙ form.parts; within = field.1.within }) (omega arith) in
     (forms.Report, record { form = report_form; fine = rw within entries; value = rw (field.0, field.1.rest) refl; filled = omega arith })
 reads (Commissioning c) form widths =
-    let again = commissioning_again (COMMISSIONING ∷ commissioning c) c (record { rest = refl; within = omega arith }) (fields_from c form widths) in
+    let again = commissioning_again (commissioning_id ∷ commissioning c) c (record { rest = refl; within = omega arith }) (fields_from c form widths) in
     (forms.Commissioning, record { form = commissioning_form; fine = again.0; value = ap (λ x. Commissioning x) again.1; filled = omega arith })
 reads (Reply r) form widths =
-    let again = reply_again (REPLY ∷ reply r) r (record { rest = refl; within = omega arith }) (reply_fields_from r form widths) in
+    let again = reply_again (reply_id ∷ reply r) r (record { rest = refl; within = omega arith }) (reply_fields_from r form widths) in
     (forms.Reply, record { form = reply_form; fine = again.0; value = ap (λ x. Reply x) again.1; filled = omega arith })
-reads (ChannelRequest value rest) form widths = (forms.ChannelRequest, record { form = request_form; fine = two_fine CHANNEL_REQUEST value rest; value = refl; filled = omega arith })
-reads (ChannelConfig value rest) form widths = (forms.ChannelConfig, record { form = config_form; fine = two_fine CHANNEL_CONFIG value rest; value = refl; filled = omega arith })
+reads (ChannelRequest value rest) form widths = (forms.ChannelRequest, record { form = request_form; fine = two_fine channel_request_id value rest; value = refl; filled = omega arith })
+reads (ChannelConfig value rest) form widths = (forms.ChannelConfig, record { form = config_form; fine = two_fine channel_config_id value rest; value = refl; filled = omega arith })
 reads (Other id rest) form widths = (forms.Other, record { form = form; fine = refl; value = refl; filled = omega arith })
 
 reading_of : (f : Form) (b : List ℕ) (c : GpdCommand) → Reads f b c → reading b ≡ Ok c

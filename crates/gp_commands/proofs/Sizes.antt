@@ -6,8 +6,7 @@ use Rattle.std.proofs.lemmas.Option.{same_Some}
 use Rattle.gp_commands.specs.declared.value.ValueSize.{ValueSize}
 use Rattle.gp_commands.specs.declared.value.ValueSize.TheVariants.{Rising, Fixed, Counted}
 use Rattle.gp_commands.specs.declared.value.ValueLine.{ValueLine}
-use Rattle.gp_commands.specs.declared.value.TheConstants.{VALUES}
-use Rattle.gp_commands.specs.Values.{has_kind, size_as, size_by, size_in, value_size}
+use Rattle.gp_commands.specs.Values.{value_types, has_kind, size_as, size_by, size_in, value_size}
 
 abbrev is_positive : ValueSize → Bool
 is_positive Rising = true
@@ -37,5 +36,5 @@ size_in_positive (line ∷ lines) kind first size h e =
     ]
 
 pub value_size_positive : (kind first size : ℕ) → value_size kind first ≡ Some size → 0 < size
-unfolding value_size
-value_size_positive kind first size e = size_in_positive VALUES kind first size refl e
+unfolding value_types value_size
+value_size_positive kind first size e = size_in_positive value_types kind first size refl e

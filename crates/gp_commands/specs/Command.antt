@@ -8,10 +8,9 @@ use Rattle.gp_commands.specs.declared.command.GpdCommand.{GpdCommand}
 use Rattle.gp_commands.specs.declared.command.GpdCommand.TheVariants.{Plain, Move, Step, Vector, Report, Commissioning, Reply, ChannelRequest, ChannelConfig, Other}
 use Rattle.gp_commands.specs.declared.command.CommandReason.{CommandReason}
 use Rattle.gp_commands.specs.declared.command.CommandReason.TheVariants.{Empty, Short}
-use Rattle.gp_commands.specs.declared.form.TheConstants.{REPORT, COMMISSIONING, REPLY, CHANNEL_REQUEST, CHANNEL_CONFIG}
 use Rattle.gp_base.specs.Field.{optional, octet, octet_at}
 use Rattle.gp_base.specs.Table.{answer}
-use Rattle.gp_commands.specs.Forms.{form_of}
+use Rattle.gp_commands.specs.Forms.{report_id, commissioning_id, channel_request_id, reply_id, channel_config_id, form_of}
 use Rattle.gp_commands.specs.Level.{HasMoveRest, HasStepRest, move_at, step_at}
 use Rattle.gp_commands.specs.Report.{AreRecords, report_reason, report_at}
 use Rattle.gp_commands.specs.Commissioning.{commissioning, fields_agree, HasCommissioningWidths, commissioning_reason, commissioning_at}
@@ -25,11 +24,11 @@ spelling (Plain id rest) = id ∷ rest
 spelling (Move id rate rest) = id ∷ (optional octet rate ++ rest)
 spelling (Step id size time rest) = id ∷ size ∷ (optional (to_le_bytes w16) time ++ rest)
 spelling (Vector id value rest) = id ∷ value ∷ rest
-spelling (Report cluster records) = REPORT ∷ (to_le_bytes w16 cluster ++ records)
-spelling (Commissioning c) = COMMISSIONING ∷ commissioning c
-spelling (Reply r) = REPLY ∷ reply r
-spelling (ChannelRequest value rest) = CHANNEL_REQUEST ∷ value ∷ rest
-spelling (ChannelConfig value rest) = CHANNEL_CONFIG ∷ value ∷ rest
+spelling (Report cluster records) = report_id ∷ (to_le_bytes w16 cluster ++ records)
+spelling (Commissioning c) = commissioning_id ∷ commissioning c
+spelling (Reply r) = reply_id ∷ reply r
+spelling (ChannelRequest value rest) = channel_request_id ∷ value ∷ rest
+spelling (ChannelConfig value rest) = channel_config_id ∷ value ∷ rest
 spelling (Other id rest) = id ∷ rest
 
 -- The identifier is one of the variant's, and each field is there where it is to be.

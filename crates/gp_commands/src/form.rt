@@ -149,7 +149,7 @@ pub(crate) const FORMS: [Line; 17] = [
 ];
 
 /// The form of an identifier's payload.
-#[tactic(auto, unfolding(crate::specs::Forms::form_of))]
+#[tactic(auto, unfolding(crate::specs::Forms::form_of, crate::specs::Forms::identifiers))]
 pub(crate) fn form_of(id: u8) -> Form
     ensures { result ≡ Rattle.gp_commands.specs.Forms.form_of id }
 {

@@ -4,6 +4,7 @@ ghost use Rattle.std.specs.Prelude.{◌≡◌, ◌<◌, ◌≤◌, ◌^◌, ◌�
 ghost use Rattle.gp_base.specs.Field.{Adds};
 ghost use Rattle.gp_base.specs.Table.{answer};
 ghost use Rattle.gp_commands.specs.Report.{entries_reason, report_reason, report_at, entry_reason, next_place, AreRecords};
+ghost use Rattle.gp_commands.specs.Forms.{report_id};
 ghost use Rattle.std.specs.Int.{w16, to_le_bytes};
 
 use crate::command::{CommandReason, GpdCommand, short};
@@ -78,7 +79,7 @@ pub(crate) fn are_records(octets: &[u8]) -> bool
 
 /// Adds a report.
 pub(crate) fn add_report(out: &mut Octets, cluster: u16, records: &Octets) -> Option<()>
-    ensures added { Adds (REPORT ∷ (to_le_bytes w16 cluster ++ records.now)) out.old out.new result }
+    ensures added { Adds (report_id ∷ (to_le_bytes w16 cluster ++ records.now)) out.old out.new result }
     ensures width { OnSome result (cluster < 2 ^ 16) }
 {
     add_octet(out, REPORT)?;

@@ -124,7 +124,7 @@ pub(crate) const VALUES: [ValueLine; 13] = [
 ];
 
 /// The size of a value of this type, whose first octet is `first`. It is `None` for a type outside the table.
-#[tactic(auto, unfolding(crate::specs::Values::value_size))]
+#[tactic(auto, unfolding(crate::specs::Values::value_size, crate::specs::Values::value_types))]
 pub(crate) fn value_size(kind: u8, first: u8) -> Option<usize>
     ensures { result ≡ Rattle.gp_commands.specs.Values.value_size kind first }
 {
