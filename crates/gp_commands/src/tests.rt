@@ -1,6 +1,7 @@
 //! What no clause says: values from the formats, and that the calls succeed.
 
 use super::*;
+use crate::form::Form;
 use gp_base::{Key, Octets};
 use std::process::Abort;
 
@@ -199,6 +200,39 @@ fn read_checked(rt: &impl Abort, octets: &[u8]) -> Result<GpdCommand, CommandRea
     read(octets)
 }
 
+/// The variant as which an identifier with its payload reads.
+fn variant_by_table(id: u8) -> Form {
+    match id {
+        0x00 | 0x10..=0x1F | 0x20..=0x23 | 0x34 | 0x50..=0x51 | 0x60..=0x68 | 0xE1..=0xE2 => {
+            Form::Plain
+        }
+        0x30..=0x31 | 0x35..=0x36 => Form::Move,
+        0x32..=0x33 | 0x37..=0x38 => Form::Step,
+        0x69..=0x6A => Form::Vector,
+        0xA0 => Form::Report,
+        0xE0 => Form::Commissioning,
+        0xE3 => Form::ChannelRequest,
+        0xF0 => Form::Reply,
+        0xF3 => Form::ChannelConfig,
+        _ => Form::Other,
+    }
+}
+
+fn variant_of(command: &GpdCommand) -> Form {
+    match command {
+        GpdCommand::Plain { .. } => Form::Plain,
+        GpdCommand::Move { .. } => Form::Move,
+        GpdCommand::Step { .. } => Form::Step,
+        GpdCommand::Vector { .. } => Form::Vector,
+        GpdCommand::Report { .. } => Form::Report,
+        GpdCommand::Commissioning(_) => Form::Commissioning,
+        GpdCommand::Reply(_) => Form::Reply,
+        GpdCommand::ChannelRequest { .. } => Form::ChannelRequest,
+        GpdCommand::ChannelConfig { .. } => Form::ChannelConfig,
+        GpdCommand::Other { .. } => Form::Other,
+    }
+}
+
 #[test]
 fn every_identifier(rt: HostRuntime) {
     let mut next = 0;
@@ -211,6 +245,7 @@ fn every_identifier(rt: HostRuntime) {
                 match read_checked(&rt, octets.as_slice()) {
                     Ok(command) => {
                         assert!(rt; case.readable.contains(&count), "{id:x} with {count}");
+                        assert_eq!(rt; variant_of(&command), variant_by_table(id), "{id:x}");
                         assert!(rt; sound(&command));
                         assert_eq!(rt; write(&command), octets);
                     }
@@ -224,6 +259,66 @@ fn every_identifier(rt: HostRuntime) {
         }
     }
     assert_eq!(rt; next, 0x100);
+}
+
+/// The size of a value of a type, where a text has so many octets with its length octet.
+fn size_by_table(kind: u8, text: usize) -> Option<usize> {
+    match kind {
+        0x08 | 0x10 | 0x18 | 0x20 | 0x28 | 0x30 => Some(1),
+        0x09 | 0x19 | 0x21 | 0x29 | 0x31 | 0x38 | 0xE8 | 0xE9 => Some(2),
+        0x0A | 0x1A | 0x22 | 0x2A => Some(3),
+        0x0B | 0x1B | 0x23 | 0x2B | 0x39 | 0xE0 | 0xE1 | 0xE2 => Some(4),
+        0x0C | 0x1C | 0x24 | 0x2C => Some(5),
+        0x0D | 0x1D | 0x25 | 0x2D => Some(6),
+        0x0E | 0x1E | 0x26 | 0x2E => Some(7),
+        0x0F | 0x1F | 0x27 | 0x2F | 0x3A | 0xF0 => Some(8),
+        0x41 | 0x42 => Some(text),
+        _ => None,
+    }
+}
+
+/// A report of one attribute, whose value is the first octets of these.
+fn report(kind: u8, value: &[u8], count: usize) -> Octets {
+    let mut octets = input(0xA0, &[0x02, 0x04, 0x00, 0x00, kind], 5);
+    for octet in value.iter().take(count) {
+        let _ = octets.push(*octet);
+    }
+    octets
+}
+
+/// A value of each type reads with as many octets as it has, and with no fewer. The length of a text is once 3 and
+/// once FF, which is followed by none.
+#[test]
+fn every_type_of_value(rt: HostRuntime) {
+    let values: [([u8; 8], usize); 2] = [
+        ([0x03, 0, 0, 0, 0, 0, 0, 0], 4),
+        ([0xFF, 0, 0, 0, 0, 0, 0, 0], 1),
+    ];
+    for (value, text) in &values {
+        for kind in 0..=0xFF {
+            let size = size_by_table(kind, *text);
+            for count in 0..=8 {
+                let octets = report(kind, value, count);
+                let place = octets.as_slice().len() as u8;
+                match (read_checked(&rt, octets.as_slice()), size) {
+                    (Ok(command), Some(size)) => {
+                        assert_eq!(rt; count, size, "{kind:x}");
+                        assert_eq!(rt; variant_of(&command), Form::Report);
+                    }
+                    (Err(reason), Some(size)) => {
+                        assert_ne!(rt; count, size, "{kind:x}");
+                        if count < size {
+                            assert_eq!(rt; reason, CommandReason::Short { place });
+                        }
+                    }
+                    (result, None) => {
+                        let ill = Err(CommandReason::ValueKind { place: 5 });
+                        assert_eq!(rt; result, ill, "{kind:x}");
+                    }
+                }
+            }
+        }
+    }
 }
 
 #[test]
