@@ -16,10 +16,13 @@ use crate::report::read_report;
 use gp_base::field::{octet, rest};
 use gp_base::{Octets, Reader};
 
-/// Reads a command identifier with its payload.
+/// Reads a command identifier with its payload (Zigbee PRO Green Power, A.4.1 and A.4.2), of at most 117 octets.
+/// Numbers of more than one octet are least significant octet first.
 ///
-/// A refusal names the first fault from the left. The place of `Short` is the length of the input, that of
-/// `ValueKind` the place of the type octet.
+/// Refused are no octets at all, a field that passes the end, a value in a report whose type has no size in the table
+/// (Zigbee Cluster Library, 2.6.2), and a security level or a key type that is reserved. A refusal names the first
+/// fault from the left. The place of `Short` is the length of the input, that of `ValueKind` the place of the type
+/// octet.
 pub fn read(octets: &[u8]) -> Result<GpdCommand, CommandReason>
     requires { length octets.now ≤ 117 }
     // What is read is spelled so,

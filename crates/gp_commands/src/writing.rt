@@ -14,14 +14,17 @@ use crate::report::{add_report, are_records};
 use gp_base::Octets;
 use gp_base::field::{add, add_octet};
 
-/// Whether a command has a spelling: exactly where some octets, at most 117 of them, read as it.
+/// Whether a command has a spelling (Zigbee PRO Green Power, A.4.1 and A.4.2): exactly where some octets, at most 117
+/// of them, read as it.
 pub fn sound(command: &GpdCommand) -> bool
     ensures { IsTrue result ↔ IsSound command.now }
 {
     has_form(command) && has_room(command)
 }
 
-/// The octets that read as a command. There is one such list.
+/// The octets that read as a command (Zigbee PRO Green Power, A.4.1 and A.4.2), which has to be sound: the identifier
+/// and the payload, at most 117 octets. Numbers of more than one octet are least significant octet first. There is one
+/// such list.
 pub fn write(command: &GpdCommand) -> Octets
     requires { IsSound command.now }
     ensures spelled { Command command.now result }
@@ -57,8 +60,8 @@ pub(crate) fn has_form(command: &GpdCommand) -> bool
         }
         GpdCommand::Vector { id, .. } => form_of(*id) == Form::Vector,
         GpdCommand::Report { records, .. } => are_records(records.as_slice()),
-        GpdCommand::Commissioning(c) => commissioning::fields_agree(c),
-        GpdCommand::Reply(r) => reply::fields_agree(r),
+        GpdCommand::Commissioning(commissioning) => commissioning::fields_agree(commissioning),
+        GpdCommand::Reply(reply) => reply::fields_agree(reply),
         GpdCommand::ChannelRequest { .. } => true,
         GpdCommand::ChannelConfig { .. } => true,
         GpdCommand::Other { id, .. } => form_of(*id) == Form::Other,
@@ -92,13 +95,13 @@ fn add_command(out: &mut Octets, command: &GpdCommand) -> Option<()>
         } => add_step(out, *id, *size, *time, rest),
         GpdCommand::Vector { id, value, rest } => add_two(out, *id, *value, rest),
         GpdCommand::Report { cluster, records } => add_report(out, *cluster, records),
-        GpdCommand::Commissioning(c) => {
+        GpdCommand::Commissioning(commissioning) => {
             add_octet(out, COMMISSIONING)?;
-            add_commissioning(out, c)
+            add_commissioning(out, commissioning)
         }
-        GpdCommand::Reply(r) => {
+        GpdCommand::Reply(reply) => {
             add_octet(out, REPLY)?;
-            add_reply(out, r)
+            add_reply(out, reply)
         }
         GpdCommand::ChannelRequest { value, rest } => add_two(out, CHANNEL_REQUEST, *value, rest),
         GpdCommand::ChannelConfig { value, rest } => add_two(out, CHANNEL_CONFIG, *value, rest),
