@@ -1,4 +1,4 @@
--- How far a search over the rows has come.
+-- What private functions say: how far a search over the rows has come. No public clause cites this file.
 use Rattle.std.specs.Prelude.{◌≡◌, ◌<◌, ◌≤◌, ℕ, List, slice_get, Option, Some, MatchOption}
 use Rattle.gp_rows.specs.declared.row.Row.{Row}
 

@@ -88,7 +88,8 @@ impl Table {
         }
     }
 
-    /// Adds a row at the end and gives its number. Its pair is new, and no row of its SrcID has its order.
+    /// Adds a row at the end and gives its number. Its pair is new, and no row of its SrcID has its order. `TableFull`
+    /// comes exactly at 1,024 rows.
     pub fn add(&mut self, row: Row) -> Result<u16, TableFull>
         requires pair { IsNewPair self.old row }
         requires order { IsNewOrder self.old row }
@@ -118,11 +119,7 @@ impl Table {
         requires { IsBelow self.old at counter }
         ensures { self.new ≡ raised self.old at counter }
     {
-        let row = self.rows[at as usize];
-        self.rows[at as usize] = Row {
-            floor: counter,
-            ..row
-        };
+        self.rows[at as usize].floor = counter;
     }
 
     /// Unpairs the row by a frame with this counter, which is above the row's floor and becomes the floor.
@@ -130,12 +127,9 @@ impl Table {
         requires { IsBelow self.old at counter }
         ensures { self.new ≡ retired self.old at counter }
     {
-        let row = self.rows[at as usize];
-        self.rows[at as usize] = Row {
-            live: false,
-            floor: counter,
-            ..row
-        };
+        let row = &mut self.rows[at as usize];
+        row.live = false;
+        row.floor = counter;
     }
 }
 
@@ -183,11 +177,11 @@ fn newest<L: Ledger>(rows: &[Row], source: Src, steps: &mut Steps<L>) -> Option<
 // The place of the newer one of two rows, of which the first may be absent.
 fn newer(rows: &[Row], best: Option<usize>, at: usize) -> Option<usize>
     requires at { at < length rows.now }
-    requires best { IfSome best (λ b. b < length rows.now) }
+    requires best { IfSome best (λ before. before < length rows.now) }
     ensures { (src : ℕ) (row : _) → slice_get rows.now at ≡ Some row → row.src.0 ≡ src → IsBestOf rows.now src at best → IsBestOf rows.now src (at + 1) result }
 {
     match best {
-        Some(b) if rows[at].order <= rows[b].order => best,
+        Some(before) if rows[at].order <= rows[before].order => best,
         _ => Some(at),
     }
 }

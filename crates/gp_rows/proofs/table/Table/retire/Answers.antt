@@ -8,14 +8,14 @@ use Rattle.gp_rows.proofs.table.Table.retire.Goals as goal
 pub invariant_of-self : goal.invariant_of-self
 invariant_of-self c =
     let below = subst (λ (l : List Row). IsBelow l c.args.at c.args.counter) (sym c.self.view_is) c.requires in
-    let was : c.index-row.result.now ≡ below.0 = c.index-row.ensures ∙ get_or_from_slice_get c.self.inside.rows.items c.args.at below.0 c.index-row.result.now below.1 in
-    let there : slice_get c.self.inside.rows.items c.args.at ≡ Some c.index-row.result.now = below.1 ∙ ap (λ (r : Row). Some r) (sym was) in
-    (IsTable-changed (retired_row c.args.counter) (λ r. refl) (λ r. refl) (λ r. refl) c.self.inside.rows.items c.args.at c.index-row.result.now c.self.invariant.0 there, c.self.invariant.1)
+    let was : c.index_mut-row.result.now ≡ below.0 = c.index_mut-row.ensures.value ∙ get_or_from_slice_get c.self.inside.rows.items c.args.at below.0 c.index_mut-row.result.now below.1 in
+    let there : slice_get c.self.inside.rows.items c.args.at ≡ Some c.index_mut-row.result.now = below.1 ∙ ap (λ (r : Row). Some r) (sym was) in
+    (IsTable-changed (retired_row c.args.counter) (λ r. refl) (λ r. refl) (λ r. refl) c.self.inside.rows.items c.args.at c.index_mut-row.result.now c.self.invariant.0 there, c.self.invariant.1)
 
 pub returns : goal.returns
 returns c =
     let below = subst (λ (l : List Row). IsBelow l c.args.at c.args.counter) (sym c.self.view_is) c.requires in
-    let was : c.index-row.result.now ≡ below.0 = c.index-row.ensures ∙ get_or_from_slice_get c.self.inside.rows.items c.args.at below.0 c.index-row.result.now below.1 in
-    let there : slice_get c.self.inside.rows.items c.args.at ≡ Some c.index-row.result.now = below.1 ∙ ap (λ (r : Row). Some r) (sym was) in
-    sym (changed_is (retired_row c.args.counter) c.self.inside.rows.items c.args.at c.index-row.result.now there)
+    let was : c.index_mut-row.result.now ≡ below.0 = c.index_mut-row.ensures.value ∙ get_or_from_slice_get c.self.inside.rows.items c.args.at below.0 c.index_mut-row.result.now below.1 in
+    let there : slice_get c.self.inside.rows.items c.args.at ≡ Some c.index_mut-row.result.now = below.1 ∙ ap (λ (r : Row). Some r) (sym was) in
+    sym (changed_is (retired_row c.args.counter) c.self.inside.rows.items c.args.at c.index_mut-row.result.now there)
     ∙ ap (λ (l : List Row). changed (retired_row c.args.counter) l c.args.at) c.self.view_is
