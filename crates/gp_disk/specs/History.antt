@@ -14,7 +14,8 @@ pub data Done : Type 0 where
   Wrote : Range → Done
   Synced : Done
 
--- what the last good sync left, the ranges written since, in order, and what a read gives
+-- what the last good sync or crash left, or the zeros of a new disk; the ranges written since, in order; and what a
+-- read gives
 pub record Held : Type 0 where
   pub base : List ℕ
   pub pending : List Range

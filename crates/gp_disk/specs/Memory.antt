@@ -13,7 +13,8 @@ use Rattle.gp_disk.specs.Trigger.{fuse_of}
 abbrev pub memory_image : MemoryDisk → Option (List ℕ)
 memory_image disk = Some disk.content.image.items
 
--- what the last good sync or crash left, the ranges written since, in order, and what a read gives
+-- what the last good sync or crash left, or the zeros of a new disk; the ranges written since, in order; and what a
+-- read gives
 abbrev pub memory_held : MemoryDisk → Held
 memory_held disk = held_after (past_of disk.content)
 

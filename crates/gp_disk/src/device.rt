@@ -48,7 +48,8 @@ pub trait Disk {
         ensures faults { faults self.new ≡ faults self.old }
         ensures fuse { fuse self.new ≡ lit (fuse self.old) };
 
-    /// Reads the octets from a place on, as many as the buffer has.
+    /// Reads the octets from a place on, as many as the buffer has. `Failed` comes only where the count of faults rises
+    /// in this call, and then the buffer may hold any octets.
     fn read(&mut self, at: u64, into: &mut [u8]) -> Result<(), Failed>
         requires range { at + length into.old ≤ (tally self.old).size }
         ensures octets { OnOk result (IfSome (image self.old) (λ image. into.new ≡ part at (length into.old) image)) }
@@ -62,7 +63,8 @@ pub trait Disk {
         ensures fuse { fuse self.new ≡ burnt 1 (fuse self.old) }
         ensures foretold { Foretold 1 (fuse self.old) (is_ok result) };
 
-    /// Writes octets from a place on.
+    /// Writes octets from a place on. `Failed` comes only where the count of faults rises in this call, and then a read
+    /// may give any octets in the range.
     fn write_at(&mut self, at: u64, octets: &[u8]) -> Result<(), Failed>
         requires range { at + length octets.now ≤ (tally self.old).size }
         requires calls { (tally self.old).writes < 16 }
@@ -79,7 +81,8 @@ pub trait Disk {
         ensures fuse { fuse self.new ≡ burnt 1 (fuse self.old) }
         ensures foretold { Foretold 1 (fuse self.old) (is_ok result) };
 
-    /// Writes so many zeros from a place on.
+    /// Writes so many zeros from a place on. `Failed` comes only where the count of faults rises in this call, and then a
+    /// read may give any octets in the range.
     fn zero(&mut self, at: u64, count: u64) -> Result<(), Failed>
         requires range { at + count ≤ (tally self.old).size }
         requires calls { (tally self.old).writes < 16 }
@@ -95,7 +98,8 @@ pub trait Disk {
         ensures fuse { fuse self.new ≡ burnt 1 (fuse self.old) }
         ensures foretold { Foretold 1 (fuse self.old) (is_ok result) };
 
-    /// Makes what was written certain. A failed `sync` does nothing.
+    /// Makes what was written certain. `Failed` comes only where the count of faults rises in this call, and then the
+    /// `sync` has done nothing.
     fn sync(&mut self) -> Result<(), Failed>
         requires { (tally self.old).writes < 16 }
         ensures image { image self.new ≡ image self.old }

@@ -18,8 +18,8 @@ use crate::trigger::Trigger;
 use gp_base::{Failed, NoMemory};
 use std::alloc::Global;
 
-/// A disk in memory. It holds what the last good sync or crash left, the ranges written since, and what a crash
-/// at some moment since the last `begin` might have left.
+/// A disk in memory. It holds what the last good sync or crash left, or the zeros of a new disk; the ranges written
+/// since; and what a crash at some moment since the last `begin` might have left.
 #[derive(Drop)]
 pub struct MemoryDisk {
     content: Content,
