@@ -423,15 +423,3 @@ fn invalid(rt: HostRuntime) {
     assert!(rt; !valid(&removal(0x00)));
     assert!(rt; !valid(&removal(0x20)));
 }
-
-/// Where a message goes stands beside it.
-#[test]
-fn sent(rt: HostRuntime) {
-    let sent = Sent {
-        to: Dest::GroupOf(0x4321),
-        body: notification(0, 0, None).body,
-    };
-    assert_eq!(rt; sent.to, Dest::GroupOf(0x4321));
-    assert!(rt; sent.to != Dest::NodeAt(0x4321) && sent.to != Dest::All);
-    assert_eq!(rt; sent.body, notification(0, 0, None).body);
-}

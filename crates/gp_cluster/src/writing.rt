@@ -15,14 +15,17 @@ use crate::response::{add_response, response_agrees};
 use gp_base::Octets;
 use gp_base::field::add;
 
-/// Whether a message is one that some octets decode to.
+/// Whether a message is one that some octets decode to (Zigbee PRO Green Power, A.3.3.4 and A.3.3.5): the ApplicationID
+/// is 0 where there is one, each field is there exactly where the options say so, the options of a Pairing fit three
+/// octets and have RemoveGPD or a communication mode other than 0b00, and the whole has at most 127 octets.
 pub fn valid(zcl: &Zcl) -> bool
     ensures { IsTrue result ↔ IsValid zcl.now }
 {
     fields_agree(&zcl.body) && has_room(zcl)
 }
 
-/// The octets that decode to a message. There is one such list.
+/// The octets that decode to a valid message (Zigbee Cluster Library, 2.4.1; Zigbee PRO Green Power, A.3.3.4 and
+/// A.3.3.5). There is one such list. Numbers of more than one octet are least significant octet first.
 pub fn encode(zcl: &Zcl) -> Octets
     requires { IsValid zcl.now }
     ensures spelled { Message zcl.now result }
@@ -38,11 +41,11 @@ fn fields_agree(body: &Cluster) -> bool
     ensures { result ≡ words.fields_agree body.now }
 {
     match body {
-        Cluster::Notification(m) => notification_agrees(m),
-        Cluster::CommissioningNotice(m) => notice_agrees(m),
-        Cluster::Pairing(m) => pairing_agrees(m),
-        Cluster::ProxyMode(m) => mode_agrees(m),
-        Cluster::Response(m) => response_agrees(m),
+        Cluster::Notification(message) => notification_agrees(message),
+        Cluster::CommissioningNotice(message) => notice_agrees(message),
+        Cluster::Pairing(message) => pairing_agrees(message),
+        Cluster::ProxyMode(message) => mode_agrees(message),
+        Cluster::Response(message) => response_agrees(message),
     }
 }
 
@@ -94,10 +97,10 @@ fn add_body(out: &mut Octets, body: &Cluster) -> Option<()>
     ensures widths { OnSome result (HasWidths body.now) }
 {
     match body {
-        Cluster::Notification(m) => add_notification(out, m),
-        Cluster::CommissioningNotice(m) => add_notice(out, m),
-        Cluster::Pairing(m) => add_pairing(out, m),
-        Cluster::ProxyMode(m) => add_mode(out, m),
-        Cluster::Response(m) => add_response(out, m),
+        Cluster::Notification(message) => add_notification(out, message),
+        Cluster::CommissioningNotice(message) => add_notice(out, message),
+        Cluster::Pairing(message) => add_pairing(out, message),
+        Cluster::ProxyMode(message) => add_mode(out, message),
+        Cluster::Response(message) => add_response(out, message),
     }
 }
