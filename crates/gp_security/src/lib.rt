@@ -3,7 +3,7 @@
 //! exactly where the MIC of a frame is right, `wrap_key` and `unwrap_key` do the same for a key under a link key, and
 //! `from_notice` gives the frame that a Commissioning Notification reports.
 //! The contracts cite `Good` and `opened` for frames, `wrap` for keys and `rebuilt` for notifications. No call takes
-//! memory, and each raises the ledger of counted work by exactly the calls of the block cipher.
+//! memory. Each but `from_notice` raises the ledger of counted work by exactly its calls of the block cipher.
 #![tactic(auto)]
 
 mod frame;
