@@ -71,6 +71,7 @@ fn absorb_header<L: Ledger>(
     let mut header = ArrayVec::<u8, 129>::new();
     header.push((aad.len() / 256 % 256) as u8);
     header.push((aad.len() % 256) as u8);
+    // It can't fail: 2 and at most 127 octets fit.
     let _ = header.try_extend_from_slice(aad);
     absorb(schedule, x, header.as_slice(), steps)
 }
