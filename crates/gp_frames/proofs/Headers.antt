@@ -1,5 +1,5 @@
 -- The header octets are at most ten.
-use Rattle.std.proofs.Common.{◌≡◌, ℕ, ◌+◌, ◌≤◌, List, [], ◌∷◌, ◌++◌, length, Option, Some, None, arith, length-append}
+use Rattle.std.proofs.Common.{ℕ, ◌≤◌, List, ◌++◌, length, Option, Some, None, arith, length-append}
 use Rattle.std.specs.Int.{w32, to_le_bytes}
 use Rattle.gp_base.specs.Field.{octet, optional}
 use Rattle.gp_frames.specs.declared.frame.Gpdf.{Gpdf}

@@ -20,7 +20,8 @@ pub fn valid(mpdu: &Mpdu) -> bool
     has_the_fields(&mpdu.frame) && has_room(mpdu)
 }
 
-/// The octets that decode to a value. There is one such list.
+/// The octets that decode to a valid value (IEEE 802.15.4, 7.2; Zigbee PRO Green Power, A.1.4.1). There is one such
+/// list. Numbers of more than one octet are least significant octet first.
 pub fn encode(mpdu: &Mpdu) -> Octets
     requires { IsValid mpdu.now }
     ensures { Frame mpdu.now result }
@@ -67,20 +68,10 @@ fn has_the_fields(frame: &Gpdf) -> bool
     let is_secured = level > 1;
     (level == 0 || level == 2 || level == 3)
         && (level == 0 || !frame.maintenance)
-        && agree(
-            frame.src.is_some(),
-            !frame.maintenance || frame.ext.is_some(),
-        )
-        && agree(frame.counter.is_some(), is_secured)
-        && agree(frame.mic.is_some(), is_secured)
+        && frame.src.is_some() == (!frame.maintenance || frame.ext.is_some())
+        && frame.counter.is_some() == is_secured
+        && frame.mic.is_some() == is_secured
         && !frame.body.as_slice().is_empty()
-}
-
-// Whether two answers are the same.
-fn agree(one: bool, other: bool) -> bool
-    ensures { result ≡ Rattle.gp_base.specs.Field.agree one other }
-{
-    one == other
 }
 
 // Whether a value has at most 125 octets.

@@ -1,4 +1,4 @@
-use Rattle.std.proofs.Common.{arith, subst}
+use Rattle.std.proofs.Common.{arith}
 use Rattle.gp_frames.proofs.Headers.{header-length}
 use Rattle.gp_frames.proofs.encoding.header.Goals as goal
 
