@@ -21,8 +21,9 @@ pub enum Capture {
 #[derive(Clone, Copy, PartialEq, Eq, Debug)]
 pub struct NotALine;
 
-/// Reads a line of a capture, without its line end. It has an even number of hexadecimal digits of either case:
-/// behind `zcl ` those of a message, at least two, and else those of a frame, perhaps none.
+/// Reads a line of a capture, of at most 1,024 octets without its line end. It has an even number of hexadecimal digits
+/// of either case: behind `zcl ` those of a message, at least two, and else those of a frame, perhaps none. `NotALine`
+/// comes exactly where it has neither form.
 // Inlined, so that the octets of a frame or a message, over 500, are made where they are used and not copied there.
 #[inline(always)]
 pub fn read_capture(line: &[u8]) -> Result<Capture, NotALine>

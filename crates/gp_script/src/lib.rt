@@ -1,4 +1,4 @@
-//! The lines that the program reads and writes, as values.
+//! The lines that the program reads, as values.
 //! To the layer above, a line is read as exactly what its form says, and refused exactly where it has none of
 //! the forms.
 //! The contracts cite `Capture` for the lines of a capture.
