@@ -21,39 +21,37 @@ pub fn exit_number(status: Status) -> u8 {
     }
 }
 
-/// Says on standard error how the run ended, where it isn't Done.
+/// Says on standard error how the run ended, where it isn't Done: `gp: `, the text of the status and one LF.
 pub fn report(rt: &impl Eprint, status: Status) {
-    if !matches!(status, Status::Done) {
-        let _ = rt.eprintln(Text(status));
-    }
+    let _ = rt.eprint(Text(status));
 }
 
-// The text of a status.
+// What is said of a status, with the LF that ends it. Of Done nothing is said.
 #[derive(Clone, Copy)]
 struct Text(Status);
 
 impl Display for Text {
     fn fmt<W: fmt::Write>(&self, f: &mut Formatter<W>) -> fmt::Result {
         match self.0 {
-            Status::Done => write!(f, "gp: done"),
+            Status::Done => Ok(()),
             Status::BadLine { line, reason } => {
                 let name = reason_name(reason);
-                write!(f, "gp: bad line {line}: {name}")
+                writeln!(f, "gp: bad line {line}: {name}")
             }
-            Status::Usage => write!(f, "gp: usage"),
-            Status::ReadFault => write!(f, "gp: read fault"),
-            Status::WriteFault => write!(f, "gp: write fault"),
-            Status::DiskFault => write!(f, "gp: disk fault"),
-            Status::NoMemory => write!(f, "gp: no memory"),
+            Status::Usage => writeln!(f, "gp: usage"),
+            Status::ReadFault => writeln!(f, "gp: read fault"),
+            Status::WriteFault => writeln!(f, "gp: write fault"),
+            Status::DiskFault => writeln!(f, "gp: disk fault"),
+            Status::NoMemory => writeln!(f, "gp: no memory"),
             Status::DiskRefused(DiskReason::SlotForm { slot }) => {
-                write!(f, "gp: disk refused: SlotForm {slot}")
+                writeln!(f, "gp: disk refused: SlotForm {slot}")
             }
             Status::DiskRefused(reason) => {
                 let name = disk_reason_name(reason);
-                write!(f, "gp: disk refused: {name}")
+                writeln!(f, "gp: disk refused: {name}")
             }
-            Status::Worn { generation } => write!(f, "gp: worn at {generation}"),
-            Status::TooLong => write!(f, "gp: too long"),
+            Status::Worn { generation } => writeln!(f, "gp: worn at {generation}"),
+            Status::TooLong => writeln!(f, "gp: too long"),
         }
     }
 }

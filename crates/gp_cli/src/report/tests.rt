@@ -1,59 +1,84 @@
 //! What no clause says: the exit statuses, and the texts of standard error.
 
 use super::*;
-use std::test::Fail;
+use std::alloc::Global;
+use std::cell::RefCell;
+use std::io;
+use std::process::Abort;
 
-/// The statuses that name no reason, but Done, each with its exit status and its text.
-const STATUSES: [(Status, u8, &str); 7] = [
-    (Status::Usage, 2, "gp: usage"),
-    (Status::ReadFault, 3, "gp: read fault"),
-    (Status::WriteFault, 4, "gp: write fault"),
-    (Status::DiskFault, 5, "gp: disk fault"),
-    (Status::NoMemory, 6, "gp: no memory"),
-    (Status::Worn { generation: 12 }, 8, "gp: worn at 12"),
-    (Status::TooLong, 9, "gp: too long"),
+/// The statuses that name no reason, each with its exit status and its text.
+const STATUSES: [(Status, u8, &str); 8] = [
+    (Status::Done, 0, ""),
+    (Status::Usage, 2, "gp: usage\n"),
+    (Status::ReadFault, 3, "gp: read fault\n"),
+    (Status::WriteFault, 4, "gp: write fault\n"),
+    (Status::DiskFault, 5, "gp: disk fault\n"),
+    (Status::NoMemory, 6, "gp: no memory\n"),
+    (Status::Worn { generation: 12 }, 8, "gp: worn at 12\n"),
+    (Status::TooLong, 9, "gp: too long\n"),
 ];
 
 const LINE_REASONS: [(LineReason, &str); 5] = [
-    (LineReason::Form, "gp: bad line 7: Form"),
-    (LineReason::Taken, "gp: bad line 7: Taken"),
-    (LineReason::Many, "gp: bad line 7: Many"),
-    (LineReason::Absent, "gp: bad line 7: Absent"),
-    (LineReason::Missing, "gp: bad line 7: Missing"),
+    (LineReason::Form, "gp: bad line 7: Form\n"),
+    (LineReason::Taken, "gp: bad line 7: Taken\n"),
+    (LineReason::Many, "gp: bad line 7: Many\n"),
+    (LineReason::Absent, "gp: bad line 7: Absent\n"),
+    (LineReason::Missing, "gp: bad line 7: Missing\n"),
 ];
 
 const DISK_REASONS: [(DiskReason, &str); 4] = [
-    (DiskReason::DiskShort, "gp: disk refused: DiskShort"),
-    (DiskReason::NotFormatted, "gp: disk refused: NotFormatted"),
+    (DiskReason::DiskShort, "gp: disk refused: DiskShort\n"),
+    (DiskReason::NotFormatted, "gp: disk refused: NotFormatted\n"),
     (
         DiskReason::AlreadyFormatted,
-        "gp: disk refused: AlreadyFormatted",
+        "gp: disk refused: AlreadyFormatted\n",
     ),
     (
         DiskReason::SlotForm { slot: 511 },
-        "gp: disk refused: SlotForm 511",
+        "gp: disk refused: SlotForm 511\n",
     ),
 ];
 
+/// A standard error that keeps what is said on it.
+#[derive(Drop)]
+struct Said {
+    text: RefCell<String>,
+}
+
+impl Eprint for Said {
+    fn eprint<D: Display + Drop>(&self, value: D) -> io::Result<()> {
+        let mut text = self.text.try_borrow_mut()?;
+        write!(text, "{value}")?;
+        Ok(())
+    }
+
+    fn eprintln<D: Display + Drop>(&self, value: D) -> io::Result<()> {
+        let mut text = self.text.try_borrow_mut()?;
+        writeln!(text, "{value}")?;
+        Ok(())
+    }
+}
+
+/// The status has this exit status, and this is all that is said of it.
+fn check(rt: &impl Abort, alloc: Global, status: Status, number: u8, text: &str) {
+    assert_eq!(rt; exit_number(status), number, "{text}");
+    let said = Said {
+        text: RefCell::new(String::new(alloc)),
+    };
+    report(&said, status);
+    assert_eq!(rt; said.text.into_inner().as_str(), text);
+}
+
 #[test]
-fn statuses(rt: HostRuntime) -> Result<(), Fail> {
-    assert_eq!(rt; exit_number(Status::Done), 0);
+fn each_status_has_its_number_and_one_line(rt: HostRuntime) {
+    let alloc = rt.alloc();
     for (status, number, text) in STATUSES {
-        assert_eq!(rt; exit_number(status), number, "{text}");
-        let said = format!(in rt.alloc(); "{}", Text(status))?;
-        assert_eq!(rt; said.as_str(), text);
+        check(&rt, alloc, status, number, text);
     }
     for (reason, text) in LINE_REASONS {
-        let status = Status::BadLine { line: 7, reason };
-        assert_eq!(rt; exit_number(status), 1, "{text}");
-        let said = format!(in rt.alloc(); "{}", Text(status))?;
-        assert_eq!(rt; said.as_str(), text);
+        check(&rt, alloc, Status::BadLine { line: 7, reason }, 1, text);
     }
     for (reason, text) in DISK_REASONS {
-        let status = Status::DiskRefused(reason);
-        assert_eq!(rt; exit_number(status), 7, "{text}");
-        let said = format!(in rt.alloc(); "{}", Text(status))?;
-        assert_eq!(rt; said.as_str(), text);
+        check(&rt, alloc, Status::DiskRefused(reason), 7, text);
     }
-    Ok(())
 }
