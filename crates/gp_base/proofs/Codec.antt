@@ -1,11 +1,11 @@
 -- Fields at places, and fields spelled out, are the same. They serve every format.
 use Rattle.std.proofs.Common.{◌≡◌, ℕ, ◌+◌, ◌-◌, ◌^◌, ◌<◌, ◌≤◌, Bool, true, false, List, [], ◌∷◌, ◌++◌, length, get_or, take, drop, Option, Some, None, refl, sym, ap, subst, ◌∙◌, arith, inl, inr, add-zero, drop-cons, add-one, length-append, length-drop}
 use Rattle.std.specs.Prelude.{IfSome, is_some, slice_index}
-use Rattle.std.specs.Int.{w16, w32, from_le_bytes, to_le_bytes}
+use Rattle.std.specs.Int.{w16, w32, w64, from_le_bytes, to_le_bytes}
 use Rattle.std.proofs.lemmas.Bool.{cases_lt}
 use Rattle.std.proofs.lemmas.List.{take_at, drop_at, drop-drop, take-append-drop, length-take, get_or-drop, get_or-take, get_or_past}
 use Rattle.std.proofs.lemmas.Nat.{le_bytes_2, le_bytes_4, from_le_bytes-to_le_bytes_2, from_le_bytes-to_le_bytes_4}
-use Rattle.gp_base.specs.Field.{IsOctets, agree, four_at, optional, part, two_at, octet, key_octets, counted, octet_at, key_at, size_if, value_if}
+use Rattle.gp_base.specs.Field.{IsOctets, agree, eight_at, four_at, optional, part, two_at, octet, key_octets, counted, octet_at, key_at, size_if, value_if}
 use Rattle.gp_base.specs.declared.identity.Src.{Src}
 use Rattle.gp_base.proofs.Flags.{agree_is, agree_same}
 
@@ -108,11 +108,15 @@ octet_of_part b p n i lt = sym (get_or-take n (drop p b) i 0 lt ∙ get_or-drop 
 pub first_of_part : (b : List ℕ) (p n : ℕ) → 0 < n → slice_index b p ≡ slice_index (part b p n) 0
 first_of_part b p n lt = ap (λ (k : ℕ). slice_index b k) (sym (add-zero p)) ∙ octet_of_part b p n 0 lt
 
-two_told : (b : List ℕ) (p : ℕ) → two_at b p ≡ from_le_bytes w16 (part b p 2)
+-- a number at a place is the number in a part
+pub two_told : (b : List ℕ) (p : ℕ) → two_at b p ≡ from_le_bytes w16 (part b p 2)
 two_told b p = rw (first_of_part b p 2 (omega arith), octet_of_part b p 2 1 (omega arith)) refl
 
-four_told : (b : List ℕ) (p : ℕ) → four_at b p ≡ from_le_bytes w32 (part b p 4)
+pub four_told : (b : List ℕ) (p : ℕ) → four_at b p ≡ from_le_bytes w32 (part b p 4)
 four_told b p = rw (first_of_part b p 4 (omega arith), octet_of_part b p 4 1 (omega arith), octet_of_part b p 4 2 (omega arith), octet_of_part b p 4 3 (omega arith)) refl
+
+pub eight_told : (b : List ℕ) (p : ℕ) → eight_at b p ≡ from_le_bytes w64 (part b p 8)
+eight_told b p = rw (first_of_part b p 8 (omega arith), octet_of_part b p 8 1 (omega arith), octet_of_part b p 8 2 (omega arith), octet_of_part b p 8 3 (omega arith), octet_of_part b p 8 4 (omega arith), octet_of_part b p 8 5 (omega arith), octet_of_part b p 8 6 (omega arith), octet_of_part b p 8 7 (omega arith)) refl
 
 pub number16_codec : IsCodec (to_le_bytes w16) (λ _ _. 2) two_at (λ n. n < 2 ^ 16)
 number16_codec = retold _ _ _ _ (fixed_codec 2 (to_le_bytes w16) (from_le_bytes w16) (λ n. n < 2 ^ 16) (record {

@@ -1,7 +1,7 @@
 -- Tables of tests, one behind the other; and a reason or a value.
 use Rattle.std.proofs.Common.{◌≡◌, Bool, true, false, cond, List, [], ◌∷◌, ◌++◌, Option, Some, None, Result, refl, sym, subst}
 use Rattle.std.specs.Prelude.{IfOk, IfErr}
-use Rattle.gp_base.specs.Table.{first_of, answer}
+use Rattle.gp_base.specs.Table.{first_of, by_table, answer}
 
 -- the first of two tables decides where one of its tests holds
 pub first_of-append-some : {A : Type 0} (front back : List (Bool × A)) (found : A) → first_of front ≡ Some found → first_of (front ++ back) ≡ Some found
@@ -20,6 +20,17 @@ pub first_of-append-both : {A : Type 0} (front back : List (Bool × A)) → firs
 first_of-append-both [] back h = (refl, h)
 first_of-append-both ((true, a) ∷ front) back h = absurd cc
 first_of-append-both ((false, a) ∷ front) back h = first_of-append-both front back h
+
+-- a property holds of what stands in each line of a table
+abbrev pub AtLines : {A : Type 0} → (A → Type 0) → List (Bool × A) → A → Type 0
+AtLines P [] otherwise = P otherwise
+AtLines P (line ∷ lines) otherwise = P line.1 × AtLines P lines otherwise
+
+-- and so it holds of what a table gives
+pub at_lines : {A : Type 0} (P : A → Type 0) (lines : List (Bool × A)) (otherwise : A) → AtLines P lines otherwise → P (by_table lines otherwise)
+at_lines P [] otherwise h = h
+at_lines P ((true, a) ∷ lines) otherwise h = h.0
+at_lines P ((false, a) ∷ lines) otherwise h = at_lines P lines otherwise h.1
 
 -- no test of a table holds
 abbrev pub AreFalse : {A : Type 0} → List (Bool × A) → Type 0

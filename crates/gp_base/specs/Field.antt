@@ -1,8 +1,8 @@
 -- Fields of a format, spelled out and at their places. Numbers stand least significant octet first.
-use Rattle.std.specs.Prelude.{◌≡◌, ℕ, ◌+◌, ◌<◌, ◌/◌, ◌%◌, ◌==◌, Bool, true, false, not, List, [], ◌∷◌, ◌++◌, length, Option, Some, None, take, drop, slice_index, if◌then◌else◌}
-use Rattle.std.specs.Option.{MatchOption}
-use Rattle.std.specs.Int.{w16, w32, from_le_bytes}
+use Rattle.std.specs.Prelude.{◌≡◌, ℕ, ◌+◌, ◌<◌, ◌/◌, ◌%◌, ◌==◌, Bool, true, false, not, List, [], ◌∷◌, ◌++◌, length, Option, Some, None, take, drop, slice_index, if◌then◌else◌, Result, MatchResult}
+use Rattle.std.specs.Int.{w16, w32, w64, from_le_bytes, to_le_bytes}
 use Rattle.gp_base.specs.declared.identity.Key.{Key}
+use Rattle.gp_base.specs.declared.identity.Src.{Src}
 
 -- a list of numbers that are octets
 abbrev pub IsOctets : List ℕ → Type 0
@@ -16,12 +16,15 @@ part octets at count = take count (drop at octets)
 abbrev pub octet_at : List ℕ → ℕ → ℕ
 octet_at octets at = slice_index octets at
 
--- the number in two octets from a place on, and in four, least significant octet first
+-- the number in two octets from a place on, in four and in eight, least significant octet first
 abbrev pub two_at : List ℕ → ℕ → ℕ
 two_at octets at = from_le_bytes w16 (slice_index octets at ∷ slice_index octets (at + 1) ∷ [])
 
 abbrev pub four_at : List ℕ → ℕ → ℕ
 four_at octets at = from_le_bytes w32 (slice_index octets at ∷ slice_index octets (at + 1) ∷ slice_index octets (at + 2) ∷ slice_index octets (at + 3) ∷ [])
+
+abbrev pub eight_at : List ℕ → ℕ → ℕ
+eight_at octets at = from_le_bytes w64 (slice_index octets at ∷ slice_index octets (at + 1) ∷ slice_index octets (at + 2) ∷ slice_index octets (at + 3) ∷ slice_index octets (at + 4) ∷ slice_index octets (at + 5) ∷ slice_index octets (at + 6) ∷ slice_index octets (at + 7) ∷ [])
 
 -- a flag as a bit
 abbrev pub flag : Bool → ℕ
@@ -46,6 +49,13 @@ optional spell (Some field) = spell field
 abbrev pub octet : ℕ → List ℕ
 octet value = value ∷ []
 
+-- the octets of a SrcID, and the SrcID at a place
+abbrev pub src_octets : Src → List ℕ
+src_octets src = to_le_bytes w32 src.0
+
+abbrev pub src_at : List ℕ → ℕ → Src
+src_at octets at = record { 0 = four_at octets at }
+
 -- the octets of a key, and the key at a place
 abbrev pub key_octets : Key → List ℕ
 key_octets key = key.0
@@ -53,9 +63,12 @@ key_octets key = key.0
 abbrev pub key_at : List ℕ → ℕ → Key
 key_at octets at = record { 0 = part octets at 16 }
 
--- a list whose length stands before it
+-- a list whose length stands before it, and that list at a place
 abbrev pub counted : List ℕ → List ℕ
 counted octets = length octets ∷ octets
+
+abbrev pub counted_at : List ℕ → ℕ → List ℕ
+counted_at octets at = part octets (at + 1) (octet_at octets at)
 
 -- parts one after another
 abbrev pub joined : List (List ℕ) → List ℕ
@@ -71,5 +84,5 @@ abbrev pub value_if : {A : Type 0} → Bool → A → Option A
 value_if there value = if there then Some value else None
 
 -- a part was added at the end; or there was no room for it in a list of at most 127 octets
-abbrev pub Adds : List ℕ → List ℕ → List ℕ → Option (Unit {0}) → Type 0
-Adds added old new told = MatchOption told (127 < length old + length added) (λ _. new ≡ old ++ added)
+abbrev pub Adds : {E : Type 0} → List ℕ → List ℕ → List ℕ → Result (Unit {0}) E → Type 0
+Adds added old new told = MatchResult told (λ _. new ≡ old ++ added) (λ _. 127 < length old + length added)

@@ -2,6 +2,8 @@
 use Rattle.std.specs.Prelude.{ℕ, ◌-◌, ◌/◌, ◌%◌, Bool, true, false, ◌&&◌, ◌==◌, nat_le, if◌then◌else◌, bit_xor}
 use Rattle.gp_base.specs.declared.identity.KeyKind.{KeyKind}
 use Rattle.gp_base.specs.declared.identity.KeyKind.TheVariants.{Nwk, Group, DerivedGroup, OutOfBox, DerivedIndividual}
+use Rattle.gp_base.specs.declared.identity.Level.{Level}
+use Rattle.gp_base.specs.declared.identity.Level.TheVariants.{Two, Three}
 use Rattle.gp_base.specs.declared.identity.Mode.{Mode}
 use Rattle.gp_base.specs.declared.identity.Mode.TheVariants.{Derived, Commissioned, Unicast}
 
@@ -20,6 +22,11 @@ is_individual Group = false
 is_individual DerivedGroup = false
 is_individual OutOfBox = true
 is_individual DerivedIndividual = true
+
+-- the number of a security level
+abbrev pub level_number : Level → ℕ
+level_number Two = 2
+level_number Three = 3
 
 -- the number of a mode of tunnelling
 abbrev pub mode_number : Mode → ℕ

@@ -1,6 +1,5 @@
 -- A walk over octets.
-use Rattle.std.specs.Prelude.{◌≡◌, ℕ, ◌+◌, ◌<◌, ◌≤◌, List, length, Option}
-use Rattle.std.specs.Option.{MatchOption}
+use Rattle.std.specs.Prelude.{◌≡◌, ℕ, ◌+◌, ◌<◌, ◌≤◌, List, length, Result, MatchResult}
 
 -- all the octets, and how many of them have been taken
 pub record Walk : Type 0 where
@@ -14,9 +13,16 @@ pub record Took (size : ℕ) (old new : Walk) : Type 0 where
   pub within : old.place + size ≤ length old.octets
 
 -- The field of so many octets was taken; or an octet of it is missing.
-abbrev pub Takes : {A : Type 0} → ℕ → A → Walk → Walk → Option A → Type 0
+abbrev pub Takes : {A E : Type 0} → ℕ → A → Walk → Walk → Result A E → Type 0
 Takes size field old new taken =
-    MatchOption taken (length old.octets < old.place + size) (λ value. (value ≡ field) × Took size old new)
+    MatchResult taken (λ value. (value ≡ field) × Took size old new) (λ _. length old.octets < old.place + size)
+
+-- What stands up to this place was taken; or an octet of it is missing.
+abbrev pub TakesTo : {A E : Type 0} → ℕ → A → Walk → Walk → Result A E → Type 0
+TakesTo end field old new taken =
+    MatchResult taken
+    (λ value. (value ≡ field) × (new.octets ≡ old.octets) × (new.place ≡ end) × (end ≤ length old.octets))
+    (λ _. length old.octets < end)
 
 -- the walk stands in the octets, or at their end
 abbrev pub IsWithin : Walk → Type 0

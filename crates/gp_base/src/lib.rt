@@ -12,6 +12,7 @@ mod memory_out;
 mod memory_source;
 mod octets;
 mod outside;
+pub mod place;
 mod read_source;
 mod reader;
 mod steps;

@@ -2,7 +2,7 @@
 
 ghost use Rattle.std.specs.Prelude.{◌≡◌, ℕ, ◌<◌, ◌≤◌, ◌↔◌, Some, [], length, take, IsTrue, IsErr, IfOk, OnOk, OnErr};
 ghost use Rattle.std.specs.Io.KnownBytes.{WriteAppends};
-ghost use Rattle.gp_base.specs.Outside.{Rose};
+ghost use Rattle.gp_base.specs.Outside.{one_more};
 ghost use Rattle.gp_base.specs.Fake.{OutState, is_refused, write_count, after_write, after_failed_write};
 
 use crate::outside::{Failed, NoMemory, Out};
@@ -79,7 +79,7 @@ impl Out for MemoryOut {
         ensures progress { IfOk result (λ count. 0 < length octets.now → 0 < count) }
         ensures octets { WriteAppends (Some self.old.written) (Some self.new.written) result octets.now }
         ensures good { OnOk result (self.new.faults ≡ self.old.faults) }
-        ensures failed { OnErr result (Rose self.old.faults self.new.faults) }
+        ensures failed { OnErr result (self.new.faults ≡ one_more self.old.faults) }
         ensures kept { self.old.faults ≤ self.new.faults }
         // Exactly the named calls fail, and those that find the room full.
         ensures variant { IsErr result ↔ IsTrue (is_refused self.old (length octets.now)) }

@@ -2,7 +2,7 @@
 
 ghost use Rattle.std.specs.Prelude.{◌≡◌, ℕ, ◌≤◌, ◌↔◌, ◌++◌, Some, length, take, drop, min, IsTrue, IsErr, IfOk, OnOk, OnErr};
 ghost use Rattle.std.specs.Io.KnownBytes.{ReadConsumes};
-ghost use Rattle.gp_base.specs.Outside.{Rose};
+ghost use Rattle.gp_base.specs.Outside.{one_more};
 ghost use Rattle.gp_base.specs.Fake.{SourceState, is_listed, read_count, after_read, after_failed_read};
 
 use crate::outside::{Failed, NoMemory, Source};
@@ -68,14 +68,14 @@ impl Source for MemorySource {
     fn read(&mut self, into: &mut [u8]) -> Result<usize, Failed>
         ensures bound { IfOk result (λ count. count ≤ length into.new) }
         ensures octets { ReadConsumes (Some self.old.left) (Some self.new.left) result into.new }
+        ensures nothing_given { OnErr result (into.new ≡ into.old) }
         ensures good { OnOk result (self.new.faults ≡ self.old.faults) }
-        ensures failed { OnErr result (Rose self.old.faults self.new.faults) }
+        ensures failed { OnErr result (self.new.faults ≡ one_more self.old.faults) }
         ensures kept { self.old.faults ≤ self.new.faults }
         // Exactly the named calls fail.
         ensures variant { IsErr result ↔ IsTrue (is_listed self.old.failing self.old.calls) }
         ensures count { IfOk result (λ count. count ≡ read_count self.old (length into.old)) }
         ensures given { IfOk result (λ count. into.new ≡ take count self.old.left ++ drop count into.old) }
-        ensures nothing_given { OnErr result (into.new ≡ into.old) }
         ensures after { IfOk result (λ count. self.new ≡ after_read self.old count) }
         ensures after_failure { OnErr result (self.new ≡ after_failed_read self.old) }
     {

@@ -2,6 +2,7 @@
 
 ghost use Rattle.std.specs.Prelude.{◌≡◌, ◌+◌, ◌<◌, ◌≤◌, ◌↔◌, [], ◌∷◌, ◌++◌, length, IsTrue, if◌then◌else◌};
 ghost use Rattle.std.specs.Option.{SomeIff};
+ghost use Rattle.gp_base.specs.Field.{IsOctets};
 
 use arrayvec::ArrayVec;
 use std::marker::Model;
@@ -55,12 +56,31 @@ impl Octets {
         true
     }
 
-    /// The octets, first to last.
+    /// Adds octets at the end. It is `false` exactly where there is no room for all of them, and then changes nothing.
+    pub fn append(&mut self, octets: &[u8]) -> bool
+        ensures told { IsTrue result ↔ (length self.old + length octets.now ≤ 127) }
+        ensures after { self.new ≡ (if result then self.old ++ octets.now else self.old) }
+    {
+        match self.items.try_extend_from_slice(octets) {
+            Ok(()) => true,
+            Err(_) => false,
+        }
+    }
+
+    /// For how many octets more there is room.
+    pub fn room(&self) -> usize
+        ensures { result + length self.now ≡ 127 }
+    {
+        self.items.remaining_capacity()
+    }
+
+    /// The octets, first to last. Each is below 256.
     pub fn as_slice(&self) -> &[u8]
         ensures value { result.now ≡ self.now }
         ensures within { length result.now ≤ 127 }
+        ensures octets { IsOctets self.now }
     {
-        self.items.as_slice()
+        as_octets(self.items.as_slice())
     }
 
     /// Another list of the same octets. Unlike `clone` it has no failure to answer.
@@ -72,4 +92,12 @@ impl Octets {
             None => unreachable!(),
         }
     }
+}
+
+// A slice of octets, of which it says that each is below 256.
+fn as_octets(slice: &[u8]) -> &[u8]
+    ensures same { result.now ≡ slice.now }
+    ensures octets { IsOctets slice.now }
+{
+    slice
 }

@@ -2,9 +2,9 @@
 
 ghost use Rattle.std.specs.Prelude.{◌≡◌, ℕ, ◌<◌, ◌≤◌, List, Option, length, IfOk, OnOk, OnErr};
 ghost use Rattle.std.specs.Io.KnownBytes.{ReadConsumes, WriteAppends};
-ghost use Rattle.gp_base.specs.Outside.{Rose};
+ghost use Rattle.gp_base.specs.Outside.{one_more};
 
-/// A call of the outside world failed. Its count of faults has risen in that call.
+/// A call of the outside world failed. Its count of faults has risen by one in that call.
 #[derive(Clone, Copy, PartialEq, Eq, Debug)]
 pub struct Failed;
 
@@ -21,12 +21,13 @@ pub trait Source {
     ghost left: { Self → Option (List ℕ) };
 
     /// Reads into the front of the buffer and gives how many octets it read. Of a buffer that isn't empty,
-    /// 0 means the end. A failed read takes nothing from what is left.
+    /// 0 means the end. A failed read takes nothing from what is left, and leaves the buffer as it was.
     fn read(&mut self, into: &mut [u8]) -> Result<usize, Failed>
         ensures bound { IfOk result (λ count. count ≤ length into.new) }
         ensures octets { ReadConsumes (left self.old) (left self.new) result into.new }
+        ensures nothing_given { OnErr result (into.new ≡ into.old) }
         ensures good { OnOk result (faults self.new ≡ faults self.old) }
-        ensures failed { OnErr result (Rose (faults self.old) (faults self.new)) }
+        ensures failed { OnErr result (faults self.new ≡ one_more (faults self.old)) }
         ensures kept { faults self.old ≤ faults self.new };
 }
 
@@ -45,6 +46,6 @@ pub trait Out {
         ensures progress { IfOk result (λ count. 0 < length octets.now → 0 < count) }
         ensures octets { WriteAppends (written self.old) (written self.new) result octets.now }
         ensures good { OnOk result (faults self.new ≡ faults self.old) }
-        ensures failed { OnErr result (Rose (faults self.old) (faults self.new)) }
+        ensures failed { OnErr result (faults self.new ≡ one_more (faults self.old)) }
         ensures kept { faults self.old ≤ faults self.new };
 }

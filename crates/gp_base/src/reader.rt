@@ -1,6 +1,6 @@
 //! A walk over octets that keeps its place.
 
-ghost use Rattle.std.specs.Prelude.{◌≡◌, ◌+◌, ◌≤◌, ◌↔◌, length, take, drop, IsSome, IfSome, IfNone};
+ghost use Rattle.std.specs.Prelude.{◌≡◌, ◌+◌, ◌<◌, ◌≤◌, ◌↔◌, length, take, drop, slice_index, IsSome, IfSome, IfNone};
 
 use std::marker::Model;
 
@@ -47,6 +47,32 @@ impl<'a> Reader<'a> {
         let part = &octets[self.at..self.at + count];
         self.at += count;
         Some(part)
+    }
+
+    /// Takes all octets that are left.
+    pub fn take_rest(&mut self) -> &'a [u8]
+        ensures taken { result.now ≡ drop self.old.place self.old.octets }
+        ensures moved { self.new ≡ record self.old { place = length self.old.octets } }
+    {
+        let octets: &'a [u8] = self.octets;
+        let rest = &octets[self.at..];
+        self.at = octets.len();
+        rest
+    }
+
+    /// The next octet, which isn't taken. It is `None` exactly at the end.
+    pub fn peek(&self) -> Option<u8>
+        ensures variant { IsSome result ↔ (self.now.place < length self.now.octets) }
+        ensures value { IfSome result (λ octet. octet ≡ slice_index self.now.octets self.now.place) }
+    {
+        self.octets.get(self.at).copied()
+    }
+
+    /// How many octets the whole list has, taken or not.
+    pub fn length(&self) -> usize
+        ensures { result ≡ length self.now.octets }
+    {
+        self.octets.len()
     }
 
     /// How many octets have been taken, which is the place of the next one.

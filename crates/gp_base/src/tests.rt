@@ -30,7 +30,7 @@ fn words_and_readers(rt: HostRuntime) -> Result<(), Fail> {
 
 // The examples of the derived group, and the bounds of SrcIDs.
 #[test]
-fn identifiers(rt: HostRuntime) {
+fn sources(rt: HostRuntime) {
     let groups = [
         (0x8765_4321, 0x4321),
         (0x1234_0000, 0x1234),
@@ -50,6 +50,11 @@ fn identifiers(rt: HostRuntime) {
     for (source, pairable) in sources {
         assert_eq!(rt; Src(source).pairable(), pairable, "{source:08x}");
     }
+}
+
+// The numbers of kinds, levels and modes, both ways.
+#[test]
+fn numbers(rt: HostRuntime) {
     let kinds = [
         (KeyKind::Nwk, 1, false),
         (KeyKind::Group, 2, false),
@@ -58,16 +63,69 @@ fn identifiers(rt: HostRuntime) {
         (KeyKind::DerivedIndividual, 7, true),
     ];
     for (kind, number, individual) in kinds {
-        assert_eq!(rt; kind as u8, number);
+        assert_eq!(rt; kind.number(), number);
+        assert_eq!(rt; KeyKind::of_number(number), Some(kind));
         assert_eq!(rt; kind.individual(), individual);
+    }
+    for (level, number) in [(Level::Two, 2), (Level::Three, 3)] {
+        assert_eq!(rt; level.number(), number);
+        assert_eq!(rt; Level::of_number(number), Some(level));
     }
     for (mode, number) in [
         (Mode::Derived, 1),
         (Mode::Commissioned, 2),
         (Mode::Unicast, 3),
     ] {
-        assert_eq!(rt; mode as u8, number);
+        assert_eq!(rt; mode.number(), number);
+        assert_eq!(rt; Mode::of_number(number), Some(mode));
     }
+    assert_eq!(rt; KeyKind::of_number(5), None);
+    assert_eq!(rt; Level::of_number(1), None);
+    assert_eq!(rt; Mode::of_number(0), None);
+}
+
+// A key is printed without its octets, also inside another value.
+#[test]
+fn a_printed_key(rt: HostRuntime) -> Result<(), Fail> {
+    let key = Key([0xC5; 16]);
+    let text = format!(in rt.alloc(); "{key:?}")?;
+    assert_eq!(rt; text.as_str(), "Key(..)");
+    let inside = Some(key);
+    let text = format!(in rt.alloc(); "{inside:?}")?;
+    assert_eq!(rt; text.as_str(), "Some(Key(..))");
+    Ok(())
+}
+
+// What is missing, or has no room, leaves a reader and a list as they were.
+#[test]
+fn fields(rt: HostRuntime) -> Result<(), Fail> {
+    let mut reader = Reader::new(&[2, 0xA1, 0xA2, 0x34, 0x12, 3, 0xB1]);
+    assert_eq!(rt; reader.length(), 7);
+    let list = field::counted(&mut reader).ok().ok_or("a list of two")?;
+    assert_eq!(rt; list.as_slice(), [0xA1, 0xA2].as_slice());
+    assert_eq!(rt; field::number16(&mut reader), Ok(0x1234));
+    assert!(rt; field::counted(&mut reader).is_err());
+    assert_eq!(rt; field::number64(&mut reader), Err(field::Short));
+    assert_eq!(rt; field::rest(&mut reader).as_slice(), [3, 0xB1].as_slice());
+    let mut out = Octets::of(&[7u8; 125]).ok_or("125 octets are a list")?;
+    assert_eq!(rt; field::add_counted(&mut out, &list), Err(field::NoRoom));
+    assert_eq!(rt; field::add_number32(&mut out, 1), Err(field::NoRoom));
+    assert_eq!(rt; field::add_number16(&mut out, 0x1234), Ok(()));
+    assert_eq!(rt; &out.as_slice()[124..], [7, 0x34, 0x12].as_slice());
+    Ok(())
+}
+
+#[test]
+fn places(rt: HostRuntime) -> Result<(), Fail> {
+    let octets = [1, 2, 3, 4, 5, 6, 7, 8, 9, 10, 11, 12, 13, 14, 15, 16, 17];
+    assert_eq!(rt; place::two_at(&octets, 1), 0x0302);
+    assert_eq!(rt; place::four_at(&octets, 1), 0x0504_0302);
+    assert_eq!(rt; place::eight_at(&octets, 1), 0x0908_0706_0504_0302);
+    assert_eq!(rt; place::key_at(&octets, 1).0.as_slice(), &octets[1..17]);
+    let mut items = Vec::with_capacity(rt.alloc(), 1)?;
+    place::put_last(&mut items, 'x');
+    assert_eq!(rt; items.as_slice(), ['x'].as_slice());
+    Ok(())
 }
 
 // Three octets in pieces of two, with the second read to fail.
