@@ -11,6 +11,4 @@ mod tables;
 pub use schedule::Schedule;
 
 #[cfg(test)]
-mod plain;
-#[cfg(test)]
 mod tests;

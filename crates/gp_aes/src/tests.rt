@@ -1,6 +1,6 @@
 ghost use Rattle.std.specs.Prelude.{◌≡◌, ◌<◌};
 
-use crate::{Schedule, plain};
+use crate::Schedule;
 use gp_base::Steps;
 use std::marker::Brand;
 use std::process::Abort;
@@ -76,7 +76,6 @@ fn check<L: Ledger>(rt: &impl Abort, blank: Blank)
     for example in &EXAMPLES {
         let schedule = Schedule::new(&example.key);
         assert_eq!(rt; schedule.encrypt(example.block, &mut steps), example.cipher);
-        assert_eq!(rt; plain::encrypt(example.key, example.block), example.cipher);
     }
 }
 
