@@ -10,11 +10,12 @@ use Rattle.gp_base.proofs.Codec.{At, At-after, At-taken, At-octet, number16_code
 use Rattle.gp_frames.specs.declared.frame.Ext.{Ext}
 use Rattle.gp_frames.specs.declared.frame.Gpdf.{Gpdf}
 use Rattle.gp_frames.specs.declared.frame.Mpdu.{Mpdu}
-use Rattle.gp_frames.specs.Frame.{level_of, is_secured, control, extension, spelling, IsFrame, Frame}
+use Rattle.gp_frames.specs.Frame.{level_of, is_secured, control, extension, IsFrame, Frame}
 use Rattle.gp_frames.specs.Reasons.{type_at, version_at, is_extended, application_at, level_at, has_src, has_security, src_place, counter_place, command_place, mic_size}
 use Rattle.gp_frames.specs.Reading.{ext_in, ext_at, src_at, counter_at, body_at, mic_at, frame_at, value_at, reading}
 use Rattle.gp_frames.proofs.Bits.{SaysControl, says_control, says_extension, flag-lt, same_test}
 use Rattle.gp_frames.proofs.Faultless.{IsFaultless, no_reason}
+use Rattle.gp_frames.proofs.Headers.{flat, spelling-flat}
 
 -- ---- the extension
 
@@ -96,7 +97,7 @@ record IsHead (b : List ℕ) (v : Mpdu) : Type 0 where
 
 head_again : (v : Mpdu) (b : List ℕ) → Frame v b → IsHead b v
 head_again v b h =
-    let at0 : At b 0 (spelling v) = record { rest = h.spelled; within = omega arith } in
+    let at0 : At b 0 (flat v) = record { rest = h.spelled ∙ spelling-flat v; within = omega arith } in
     let at1 = At-after b 0 (1 ∷ []) _ at0 in
     let at2 = At-after b 1 (8 ∷ []) _ at1 in
     let at3 = At-after b 2 (v.seq ∷ []) _ at2 in

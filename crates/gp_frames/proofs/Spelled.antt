@@ -8,11 +8,12 @@ use Rattle.gp_base.specs.Field.{IsOctets, part, flag, has_bit, octet, octet_at, 
 use Rattle.gp_base.specs.declared.identity.Src.{Src}
 use Rattle.gp_base.proofs.Codec.{split_octet, split_octets, length-octets_at, join, IsField, number16_codec, number32_codec, optional_codec, src_codec}
 use Rattle.gp_frames.specs.declared.frame.Ext.{Ext}
-use Rattle.gp_frames.specs.Frame.{level_of, control, extension, spelling, IsFrame, Frame}
+use Rattle.gp_frames.specs.Frame.{level_of, control, extension, IsFrame, Frame}
 use Rattle.gp_frames.specs.Reasons.{type_at, is_extended, level_at, has_src, has_security, src_place, counter_place, command_place, mic_size, first_reason}
 use Rattle.gp_frames.specs.Reading.{ext_in, ext_at, src_at, counter_at, body_at, mic_at, frame_at, value_at}
 use Rattle.gp_frames.proofs.Bits.{control_again, extension_again, same_test}
 use Rattle.gp_frames.proofs.Faultless.{IsFaultless, faultless}
+use Rattle.gp_frames.proofs.Headers.{flat, spelling-flat}
 
 -- ---- the fields that have a codec of their own
 
@@ -98,7 +99,7 @@ module _ (b : List ℕ) (bytes : IsOctets b) (f : IsFaultless b) where
   control-is = ap (λ (x : Bool). flag (eqb (type_at b) 1) + 12 + 64 * flag (has_bit (octet_at b 7) 64) + 128 * flag x) (is_some-value_if (is_extended b) (ext_in (octet_at b 8)))
       ∙ control_again (octet_at b 7) (bytes 7) f.kind f.version
 
-  whole : b ≡ spelling (value_at b)
+  whole : b ≡ flat (value_at b)
   unfolding value_at frame_at ext_at src_at counter_at body_at mic_at
   whole =
       let len = length b in
@@ -127,5 +128,5 @@ is_spelled b bytes h =
       frame = frame b bytes f;
       limit = f.limit;
       are_octets = bytes;
-      spelled = whole b bytes f;
+      spelled = whole b bytes f ∙ sym (spelling-flat (value_at b));
     }

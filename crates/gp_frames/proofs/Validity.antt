@@ -7,11 +7,15 @@ use Rattle.gp_base.proofs.Flags.{agree_is, agree_same}
 use Rattle.gp_frames.specs.declared.frame.Gpdf.{Gpdf}
 use Rattle.gp_frames.specs.declared.frame.Mpdu.{Mpdu}
 use Rattle.gp_frames.specs.Frame.{level_of, is_secured, spelling, IsFrame, Frame, IsValid}
+use Rattle.gp_frames.proofs.Headers.{flat, spelling-flat}
 use Rattle.gp_frames.specs.Widths.{HasWidths, head_octets, field_octets, in_parts, has_fields}
 
-pub spelling-in_parts : (v : Mpdu) → spelling v ≡ in_parts v
+flat-in_parts : (v : Mpdu) → flat v ≡ in_parts v
 unfolding head_octets field_octets
-spelling-in_parts v = refl
+flat-in_parts v = refl
+
+pub spelling-in_parts : (v : Mpdu) → spelling v ≡ in_parts v
+spelling-in_parts v = spelling-flat v ∙ flat-in_parts v
 
 levels : (n : ℕ) → ((eqb n 0 || eqb n 2) || eqb n 3) ≡ true → (n ≡ 0) ⊎ ((n ≡ 2) ⊎ (n ≡ 3))
 levels n h = elim (or_cases (eqb n 0 || eqb n 2) (eqb n 3) h) [

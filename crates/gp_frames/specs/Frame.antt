@@ -33,17 +33,14 @@ header frame =
     ∷ optional (to_le_bytes w32) frame.counter
     ∷ [])
 
--- the fields of a frame one after the other
+-- the MAC header, and the header, the body and the MIC of the frame
 abbrev pub spelling : Mpdu → List ℕ
 spelling mpdu =
     joined
     ((1 ∷ 8 ∷ mpdu.seq ∷ [])
     ∷ to_le_bytes w16 mpdu.pan
     ∷ to_le_bytes w16 mpdu.dest
-    ∷ octet (control mpdu.frame)
-    ∷ optional (λ ext. octet (extension ext)) mpdu.frame.ext
-    ∷ optional (λ src. to_le_bytes w32 src.0) mpdu.frame.src
-    ∷ optional (to_le_bytes w32) mpdu.frame.counter
+    ∷ header mpdu.frame
     ∷ mpdu.frame.body
     ∷ optional (λ mic. mic) mpdu.frame.mic
     ∷ [])

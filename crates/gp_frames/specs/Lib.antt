@@ -1,5 +1,5 @@
 pub mod Frame
 pub mod Reasons
 pub mod Reading
-pub mod Shape
+pub mod Inside
 pub mod Widths

@@ -1,4 +1,5 @@
--- What reading gives, by places.
+-- What reading gives, by places, for callers that compute with it. Nobody has to believe it: the clauses `found` and `only`
+-- of `decode` say by the relation `Frame` what it gives.
 use Rattle.std.specs.Prelude.{ℕ, ◌-◌, ◌/◌, ◌%◌, ◌==◌, List, length, Option, Result}
 use Rattle.gp_base.specs.Field.{has_bit, part, octet_at, two_at, four_at, value_if}
 use Rattle.gp_base.specs.Table.{answer}

@@ -1,4 +1,4 @@
--- What the parts of the code that spells a frame say. No public clause cites this file.
+-- What the parts of the code that spells a frame say. No public clause cites this file, and nobody has to believe it.
 use Rattle.std.specs.Prelude.{◌≡◌, ℕ, ◌^◌, ◌<◌, Bool, not, ◌&&◌, ◌||◌, ◌==◌, List, [], ◌∷◌, ◌++◌, length, IfSome, is_some}
 use Rattle.std.specs.Int.{w16, w32, to_le_bytes}
 use Rattle.gp_base.specs.Field.{agree, octet, optional}

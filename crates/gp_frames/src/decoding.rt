@@ -1,17 +1,23 @@
 //! Reading a frame.
 
-ghost use Rattle.std.specs.Prelude.{◌≡◌, ◌+◌, ◌<◌, ◌≤◌, Bool, List, Ok, Err, Some, length, IsTrue, IfNone, IfSome, IfOk, IfErr};
-ghost use Rattle.gp_base.specs.Field.{two_at, four_at, size_if};
-ghost use Rattle.gp_base.specs.Table.{first_of};
+ghost use Rattle.std.specs.Prelude.{◌≡◌, ◌++◌, ◌+◌, ◌%◌, ◌==◌, ◌||◌, is_some, nat_le, ◌<◌, ◌≤◌, ℕ, List, Ok, Err, Some, length, IfSome, IfOk, IfErr, OnOk};
+ghost use Rattle.gp_base.specs.Table.{answer, first_of};
 ghost use Rattle.gp_frames.specs.declared.frame.Mpdu.{Mpdu};
 ghost use Rattle.gp_frames.specs.declared.frame.FrameReason.{FrameReason};
 ghost use Rattle.gp_frames.specs.Frame.{Frame};
-ghost use Rattle.gp_frames.specs.Reasons.{type_at, is_extended, extension_at, level_at, counter_place, command_place, mic_size, mac_lines, control_lines, extension_lines, field_lines, first_reason};
-ghost use Rattle.gp_frames.specs.Shape.{IsShape};
-ghost use Rattle.gp_frames.specs.Reading.{ext_at, src_at, counter_at, mic_at, body_at, frame_at, value_at, reading};
+ghost use Rattle.std.specs.Option.{option_map, option_map_or};
+ghost use Rattle.gp_base.specs.Field.{octet_at};
+ghost use Rattle.gp_base.specs.Walk.{TakesTo};
+ghost use Rattle.gp_frames.specs.Reasons as words;
+ghost use Rattle.gp_frames.specs.Reasons.{src_place, mac_lines, control_lines, extension_lines, field_lines, first_reason};
+ghost use Rattle.gp_frames.specs.Reading.{ext_in, ext_at, reading};
+ghost use Rattle.gp_frames.specs.Inside.{head_at, fields_at};
 
 use crate::frame::{Ext, FrameReason, Gpdf, Mpdu};
-use gp_base::{Octets, Src};
+use gp_base::field::{
+    Short, is_set, mic_if, number16, number32_if, octet, octet_if, octets as take_octets, src_if,
+};
+use gp_base::{Octets, Reader, Src};
 
 /// Reads one MPDU (IEEE 802.15.4, 7.2; Zigbee PRO Green Power, A.1.4.1). Numbers of more than one octet
 /// are least significant octet first. The reason of a refusal is the first fault from the left.
@@ -30,307 +36,213 @@ pub fn decode(octets: &[u8]) -> Result<Mpdu, FrameReason>
     read(octets)
 }
 
-#[tactic(auto, unfolding(crate::specs::Reading::reading))]
+// What stands before the extension.
+#[derive(Clone, Copy, Debug)]
+struct Head {
+    seq: u8,
+    pan: u16,
+    dest: u16,
+    control: u8,
+}
+
+// What stands behind it.
+#[derive(Debug, Drop)]
+struct Fields {
+    src: Option<Src>,
+    counter: Option<u32>,
+    body: Octets,
+    mic: Option<[u8; 4]>,
+}
+
+// Reads by places.
+#[tactic(auto, using(crate::proofs::Steps::table_steps, crate::proofs::Extended::src_told, crate::proofs::Extended::security_told), unfolding(crate::specs::Reading::reading, crate::specs::Reading::value_at, crate::specs::Reading::frame_at, crate::specs::Reasons::first_reason))]
 fn read(octets: &[u8]) -> Result<Mpdu, FrameReason>
     ensures exact { result ≡ reading octets.now }
     ensures level { IfOk result (λ mpdu. IfSome mpdu.frame.ext (λ ext. ext.level ≤ 3)) }
 {
-    match refusal(octets) {
-        Some(reason) => Err(reason),
-        None => Ok(value(octets)),
-    }
-}
-
-// The first fault from the left.
-#[tactic(auto, using(crate::proofs::Steps::table_steps), unfolding(crate::specs::Reasons::first_reason))]
-fn refusal(octets: &[u8]) -> Option<FrameReason>
-    ensures value { result ≡ first_reason octets.now }
-    ensures long { IfNone result (8 ≤ length octets.now) }
-    ensures longer { IfNone result (IsTrue (is_extended octets.now) → 9 ≤ length octets.now) }
-    ensures enough { IfNone result (command_place octets.now + mic_size octets.now < length octets.now) }
-    ensures within { IfNone result (length octets.now ≤ 125) }
-{
-    if let Some(reason) = mac_refusal(octets) {
-        return Some(reason);
-    }
-    if let Some(reason) = control_refusal(octets) {
-        return Some(reason);
-    }
-    if let Some(reason) = extension_refusal(octets) {
-        return Some(reason);
-    }
-    field_refusal(octets)
-}
-
-#[tactic(auto, unfolding(crate::specs::Reasons::mac_lines))]
-fn mac_refusal(octets: &[u8]) -> Option<FrameReason>
-    ensures value { result ≡ first_of (mac_lines octets.now) }
-    ensures long { IfNone result (8 ≤ length octets.now) }
-    ensures within { IfNone result (length octets.now ≤ 125) }
-{
-    if octets.len() > 125 {
-        return Some(FrameReason::TooLong);
-    }
-    let place = octets.len() as u8;
-    if octets.len() < 2 {
-        return Some(FrameReason::Short { place });
-    }
-    if !(octets[0] == 1 && octets[1] == 8) {
-        return Some(FrameReason::MacForm);
-    }
-    if octets.len() < 8 {
-        return Some(FrameReason::Short { place });
-    }
-    None
-}
-
-#[tactic(auto, unfolding(crate::specs::Reasons::control_lines))]
-fn control_refusal(octets: &[u8]) -> Option<FrameReason>
-    requires long { 8 ≤ length octets.now }
-    requires within { length octets.now ≤ 125 }
-    ensures value { result ≡ first_of (control_lines octets.now) }
-    ensures longer { IfNone result (IsTrue (is_extended octets.now) → 9 ≤ length octets.now) }
-{
-    if octets[7] % 4 >= 2 {
-        return Some(FrameReason::FrameKind);
-    }
-    if octets[7] / 4 % 16 != 3 {
-        return Some(FrameReason::Version);
-    }
-    if octets[7] / 128 % 2 == 1 && octets.len() < 9 {
-        let place = octets.len() as u8;
-        return Some(FrameReason::Short { place });
-    }
-    None
-}
-
-fn is_with_extension(octets: &[u8]) -> bool
-    requires { 8 ≤ length octets.now }
-    ensures { result ≡ is_extended octets.now }
-{
-    octets[7] / 128 % 2 == 1
-}
-
-fn extension(octets: &[u8]) -> u8
-    requires long { 8 ≤ length octets.now }
-    requires longer { IsTrue (is_extended octets.now) → 9 ≤ length octets.now }
-    ensures { result ≡ extension_at octets.now }
-{
-    if is_with_extension(octets) {
-        octets[8]
-    } else {
-        0
-    }
-}
-
-#[tactic(auto, unfolding(crate::specs::Reasons::extension_lines))]
-fn extension_refusal(octets: &[u8]) -> Option<FrameReason>
-    requires long { 8 ≤ length octets.now }
-    requires longer { IsTrue (is_extended octets.now) → 9 ≤ length octets.now }
-    ensures { result ≡ first_of (extension_lines octets.now) }
-{
-    let extension = extension(octets);
-    if extension % 8 != 0 {
-        return Some(FrameReason::AppId);
-    }
-    if extension / 8 % 4 == 1 {
-        return Some(FrameReason::LevelOne);
-    }
-    if octets[7] % 4 == 1 && extension / 8 % 4 >= 2 {
-        return Some(FrameReason::SecuredMaintenance);
-    }
-    None
-}
-
-// Which fields a frame has.
-#[derive(Clone, Copy)]
-struct Shape {
-    is_extended: bool,
-    has_src: bool,
-    has_security: bool,
-}
-
-impl Shape {
-    fn src_place(self) -> usize
-        ensures { result ≡ 8 + size_if self.is_extended 1 }
-    {
-        if self.is_extended { 9 } else { 8 }
-    }
-
-    fn counter_place(self) -> usize
-        ensures { result ≡ (8 + size_if self.is_extended 1) + size_if self.has_src 4 }
-    {
-        self.src_place() + if self.has_src { 4 } else { 0 }
-    }
-
-    fn command_place(self) -> usize
-        ensures { result ≡ ((8 + size_if self.is_extended 1) + size_if self.has_src 4) + size_if self.has_security 4 }
-    {
-        self.counter_place() + self.mic_size()
-    }
-
-    fn mic_size(self) -> usize
-        ensures { result ≡ size_if self.has_security 4 }
-    {
-        if self.has_security { 4 } else { 0 }
-    }
-}
-
-fn shape_of(octets: &[u8]) -> Shape
-    requires long { 8 ≤ length octets.now }
-    requires longer { IsTrue (is_extended octets.now) → 9 ≤ length octets.now }
-    ensures { IsShape result octets.now }
-{
-    let is_extended = is_with_extension(octets);
-    Shape {
-        is_extended,
-        has_src: octets[7] % 4 == 0 || is_extended,
-        has_security: extension(octets) / 8 % 4 >= 2,
-    }
-}
-
-#[tactic(auto, unfolding(crate::specs::Reasons::field_lines))]
-fn field_refusal(octets: &[u8]) -> Option<FrameReason>
-    requires long { 8 ≤ length octets.now }
-    requires longer { IsTrue (is_extended octets.now) → 9 ≤ length octets.now }
-    requires within { length octets.now ≤ 125 }
-    ensures value { result ≡ first_of (field_lines octets.now) }
-    ensures enough { IfNone result (command_place octets.now + mic_size octets.now < length octets.now) }
-{
-    let shape = shape_of(octets);
-    let command = shape.command_place();
-    let end = command + shape.mic_size();
-    if octets.len() < end {
-        let place = octets.len() as u8;
-        return Some(FrameReason::Short { place });
-    }
-    if octets.len() == end {
-        let place = command as u8;
-        return Some(FrameReason::NoCommand { place });
-    }
-    None
-}
-
-fn u16_at(octets: &[u8], at: usize) -> u16
-    requires { at + 2 ≤ length octets.now }
-    ensures { result ≡ two_at octets.now at }
-{
-    u16::from_le_bytes([octets[at], octets[at + 1]])
-}
-
-fn u32_at(octets: &[u8], at: usize) -> u32
-    requires { at + 4 ≤ length octets.now }
-    ensures { result ≡ four_at octets.now at }
-{
-    u32::from_le_bytes([octets[at], octets[at + 1], octets[at + 2], octets[at + 3]])
-}
-
-// The value by places, of octets with no fault.
-#[tactic(auto, unfolding(crate::specs::Reading::value_at))]
-fn value(octets: &[u8]) -> Mpdu
-    requires long { 8 ≤ length octets.now }
-    requires longer { IsTrue (is_extended octets.now) → 9 ≤ length octets.now }
-    requires enough { command_place octets.now + mic_size octets.now < length octets.now }
-    requires within { length octets.now ≤ 125 }
-    ensures value { result ≡ value_at octets.now }
-    ensures level { IfSome result.frame.ext (λ ext. ext.level ≤ 3) }
-{
-    Mpdu {
-        seq: octets[2],
-        pan: u16_at(octets, 3),
-        dest: u16_at(octets, 5),
-        frame: frame(octets),
-    }
-}
-
-#[tactic(auto, unfolding(crate::specs::Reading::frame_at))]
-fn frame(octets: &[u8]) -> Gpdf
-    requires long { 8 ≤ length octets.now }
-    requires longer { IsTrue (is_extended octets.now) → 9 ≤ length octets.now }
-    requires enough { command_place octets.now + mic_size octets.now < length octets.now }
-    requires within { length octets.now ≤ 125 }
-    ensures value { result ≡ frame_at octets.now }
-    ensures level { IfSome result.ext (λ ext. ext.level ≤ 3) }
-{
-    let shape = shape_of(octets);
-    Gpdf {
-        maintenance: octets[7] % 4 == 1,
-        auto: octets[7] / 64 % 2 == 1,
-        ext: ext(octets),
-        src: src(octets, shape),
-        counter: counter(octets, shape),
-        body: body(octets, shape),
-        mic: mic(octets, shape),
-    }
-}
-
-#[tactic(auto, unfolding(crate::specs::Reading::ext_at))]
-fn ext(octets: &[u8]) -> Option<Ext>
-    requires long { 8 ≤ length octets.now }
-    requires longer { IsTrue (is_extended octets.now) → 9 ≤ length octets.now }
-    ensures value { result ≡ ext_at octets.now }
-    ensures level { IfSome result (λ ext. ext.level ≤ 3) }
-{
-    if !is_with_extension(octets) {
-        return None;
-    }
-    let extension = octets[8];
-    Some(Ext {
-        level: extension / 8 % 4,
-        individual: extension / 32 % 2 == 1,
-        rx_after: extension / 64 % 2 == 1,
-        to_device: extension / 128 % 2 == 1,
+    let mut reader = Reader::new(octets);
+    let head = take_head(&mut reader)?;
+    let ext = take_ext(&mut reader, head.control)?;
+    let fields = take_fields(&mut reader, has_src(head.control, ext), has_security(ext))?;
+    Ok(Mpdu {
+        seq: head.seq,
+        pan: head.pan,
+        dest: head.dest,
+        frame: Gpdf {
+            maintenance: head.control % 4 == 1,
+            auto: is_set(head.control, 64),
+            ext,
+            src: fields.src,
+            counter: fields.counter,
+            body: fields.body,
+            mic: fields.mic,
+        },
     })
 }
 
-#[tactic(auto, unfolding(crate::specs::Reading::src_at))]
-fn src(octets: &[u8], shape: Shape) -> Option<Src>
-    requires enough { counter_place octets.now ≤ length octets.now }
-    requires shape { IsShape shape octets.now }
-    ensures { result ≡ src_at octets.now }
+// The fault of a missing octet.
+fn short(reader: &Reader) -> FrameReason
+    requires { length reader.now.octets ≤ 125 }
+    ensures { result ≡ FrameReason.Short (length reader.now.octets) }
 {
-    if !shape.has_src {
-        return None;
-    }
-    Some(Src(u32_at(octets, shape.src_place())))
-}
-
-#[tactic(auto, unfolding(crate::specs::Reading::counter_at))]
-fn counter(octets: &[u8], shape: Shape) -> Option<u32>
-    requires enough { command_place octets.now ≤ length octets.now }
-    requires shape { IsShape shape octets.now }
-    ensures { result ≡ counter_at octets.now }
-{
-    if !shape.has_security {
-        return None;
-    }
-    Some(u32_at(octets, shape.counter_place()))
-}
-
-#[tactic(auto, unfolding(crate::specs::Reading::body_at))]
-fn body(octets: &[u8], shape: Shape) -> Octets
-    requires within { length octets.now ≤ 125 }
-    requires enough { command_place octets.now + mic_size octets.now ≤ length octets.now }
-    requires shape { IsShape shape octets.now }
-    ensures { result ≡ body_at octets.now }
-{
-    let start = shape.command_place();
-    let end = octets.len() - shape.mic_size();
-    match Octets::of(&octets[start..end]) {
-        Some(body) => body,
-        None => unreachable!(),
+    FrameReason::Short {
+        place: reader.length() as u8,
     }
 }
 
-#[tactic(auto, unfolding(crate::specs::Reading::mic_at))]
-fn mic(octets: &[u8], shape: Shape) -> Option<[u8; 4]>
-    requires enough { 4 ≤ length octets.now }
-    requires shape { IsShape shape octets.now }
-    ensures { result ≡ mic_at octets.now }
+// Takes the MAC header and the NWK frame control, of which it tests the first alone.
+#[tactic(auto, unfolding(crate::specs::Reasons::mac_lines))]
+fn take_head(reader: &mut Reader) -> Result<Head, FrameReason>
+    requires { reader.old.place ≡ 0 }
+    ensures value { result ≡ answer (first_of (mac_lines reader.old.octets)) (head_at reader.old.octets) }
+    ensures octets { reader.new.octets ≡ reader.old.octets }
+    ensures place { OnOk result (reader.new.place ≡ 8) }
+    ensures long { OnOk result (8 ≤ length reader.old.octets) }
+    ensures within { OnOk result (length reader.old.octets ≤ 125) }
 {
-    if !shape.has_security {
-        return None;
+    if reader.length() > 125 {
+        return Err(FrameReason::TooLong);
     }
-    let at = octets.len() - 4;
-    Some([octets[at], octets[at + 1], octets[at + 2], octets[at + 3]])
+    let Ok(first) = octet(reader) else {
+        return Err(short(reader));
+    };
+    let Ok(second) = octet(reader) else {
+        return Err(short(reader));
+    };
+    if !(first == 1 && second == 8) {
+        return Err(FrameReason::MacForm);
+    }
+    match take_addresses(reader) {
+        Ok(head) => Ok(head),
+        Err(_) => Err(short(reader)),
+    }
+}
+
+// Takes sequence number, addresses and NWK frame control.
+fn take_addresses(reader: &mut Reader) -> Result<Head, Short>
+    requires { reader.old.place ≡ 2 }
+    ensures taken { TakesTo 8 (head_at reader.old.octets) reader.old reader.new result }
+    ensures octets { reader.new.octets ≡ reader.old.octets }
+{
+    let seq = octet(reader)?;
+    let pan = number16(reader)?;
+    let dest = number16(reader)?;
+    let control = octet(reader)?;
+    Ok(Head {
+        seq,
+        pan,
+        dest,
+        control,
+    })
+}
+
+// Takes the extension, where the NWK frame control says that it is there, and tests both.
+#[tactic(auto, using(crate::proofs::Steps::table_steps), unfolding(crate::specs::Reasons::control_lines, crate::specs::Reasons::extension_lines, crate::specs::Reading::ext_at))]
+fn take_ext(reader: &mut Reader, control: u8) -> Result<Option<Ext>, FrameReason>
+    requires control { control ≡ octet_at reader.old.octets 7 }
+    requires place { reader.old.place ≡ 8 }
+    requires long { 8 ≤ length reader.old.octets }
+    requires within { length reader.old.octets ≤ 125 }
+    ensures value { result ≡ answer (first_of (control_lines reader.old.octets ++ extension_lines reader.old.octets)) (ext_at reader.old.octets) }
+    ensures octets { reader.new.octets ≡ reader.old.octets }
+    ensures place { OnOk result (reader.new.place ≡ src_place reader.old.octets) }
+    ensures inside { OnOk result (src_place reader.old.octets ≤ length reader.old.octets) }
+    ensures level { IfOk result (λ ext. IfSome ext (λ e. e.level ≤ 3)) }
+{
+    if control % 4 >= 2 {
+        return Err(FrameReason::FrameKind);
+    }
+    if control / 4 % 16 != 3 {
+        return Err(FrameReason::Version);
+    }
+    let Ok(extension) = octet_if(reader, is_set(control, 128)) else {
+        return Err(short(reader));
+    };
+    let bits = extension.unwrap_or(0);
+    if bits % 8 != 0 {
+        return Err(FrameReason::AppId);
+    }
+    if bits / 8 % 4 == 1 {
+        return Err(FrameReason::LevelOne);
+    }
+    if control % 4 == 1 && bits / 8 % 4 >= 2 {
+        return Err(FrameReason::SecuredMaintenance);
+    }
+    Ok(ext_of(extension))
+}
+
+// The extension in its octet.
+fn ext_of(extension: Option<u8>) -> Option<Ext>
+    ensures value { result ≡ option_map ext_in extension }
+    ensures level { IfSome result (λ e. e.level ≤ 3) }
+{
+    match extension {
+        Some(bits) => Some(Ext {
+            level: bits / 8 % 4,
+            individual: is_set(bits, 32),
+            rx_after: is_set(bits, 64),
+            to_device: is_set(bits, 128),
+        }),
+        None => None,
+    }
+}
+
+// Whether a frame has a SrcID.
+fn has_src(control: u8, ext: Option<Ext>) -> bool
+    ensures { result ≡ ((control % 4 == 0) || is_some ext) }
+{
+    control % 4 == 0 || ext.is_some()
+}
+
+// Whether a frame has a counter and a MIC.
+fn has_security(ext: Option<Ext>) -> bool
+    ensures { result ≡ nat_le 2 (option_map_or (λ e. e.level) ext 0) }
+{
+    match ext {
+        Some(ext) => ext.level >= 2,
+        None => false,
+    }
+}
+
+// Takes what stands behind the extension.
+#[tactic(auto, unfolding(crate::specs::Reasons::field_lines, crate::specs::Reading::src_at, crate::specs::Reading::counter_at, crate::specs::Reading::body_at, crate::specs::Reading::mic_at))]
+fn take_fields(
+    reader: &mut Reader,
+    has_src: bool,
+    has_security: bool,
+) -> Result<Fields, FrameReason>
+    requires src { has_src ≡ words.has_src reader.old.octets }
+    requires security { has_security ≡ words.has_security reader.old.octets }
+    requires place { reader.old.place ≡ src_place reader.old.octets }
+    requires inside { src_place reader.old.octets ≤ length reader.old.octets }
+    requires within { length reader.old.octets ≤ 125 }
+    ensures { result ≡ answer (first_of (field_lines reader.old.octets)) (fields_at reader.old.octets) }
+{
+    let Ok(src) = src_if(reader, has_src) else {
+        return Err(short(reader));
+    };
+    let Ok(counter) = number32_if(reader, has_security) else {
+        return Err(short(reader));
+    };
+    let mic_size = if has_security { 4 } else { 0 };
+    let left = reader.length() - reader.place();
+    if left < mic_size {
+        return Err(short(reader));
+    }
+    if left == mic_size {
+        let place = reader.place() as u8;
+        return Err(FrameReason::NoCommand { place });
+    }
+    let Ok(body) = take_octets(reader, left - mic_size) else {
+        return Err(short(reader));
+    };
+    let Ok(mic) = mic_if(reader, has_security) else {
+        return Err(short(reader));
+    };
+    Ok(Fields {
+        src,
+        counter,
+        body,
+        mic,
+    })
 }

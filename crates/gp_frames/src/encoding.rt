@@ -1,17 +1,17 @@
 //! Spelling a frame.
 
-ghost use Rattle.std.specs.Prelude.{◌≡◌, ◌↔◌, ◌<◌, ◌≤◌, ◌^◌, length, IsTrue, IfSome, OnSome};
+ghost use Rattle.std.specs.Prelude.{◌≡◌, ◌↔◌, ◌<◌, ◌≤◌, ◌^◌, length, IsTrue, IfSome, OnOk, MatchResult};
 ghost use Rattle.std.specs.Bool.{OnTrue};
-ghost use Rattle.std.specs.Option.{MatchOption};
-ghost use Rattle.std.specs.Int.{w32, to_le_bytes};
 ghost use Rattle.gp_base.specs.Field.{Adds, IsOctets, octet, optional};
 ghost use Rattle.gp_frames.specs.Frame.{extension, level_of, Frame, IsValid};
 ghost use Rattle.gp_frames.specs.Widths.{HasWidths, head_octets, field_octets, in_parts, has_fields};
 ghost use Rattle.gp_frames.specs.Frame as words;
 
 use crate::frame::{Ext, Gpdf, Mpdu};
-use gp_base::field::{add, add_mic_if, add_number16, add_number32_if, add_octet};
-use gp_base::{Octets, Src};
+use gp_base::Octets;
+use gp_base::field::{
+    NoRoom, add, add_mic_if, add_number16, add_number32_if, add_octet, add_src_if,
+};
 
 /// Whether a value is one that some octets decode to (IEEE 802.15.4, 7.2; Zigbee PRO Green Power, A.1.4.1).
 pub fn valid(mpdu: &Mpdu) -> bool
@@ -27,8 +27,8 @@ pub fn encode(mpdu: &Mpdu) -> Octets
     ensures { Frame mpdu.now result }
 {
     match spell(mpdu) {
-        Some(octets) => octets,
-        None => unreachable!(),
+        Ok(octets) => octets,
+        Err(_) => unreachable!(),
     }
 }
 
@@ -40,22 +40,22 @@ pub fn header(frame: &Gpdf) -> Octets
     ensures size { length result ≤ 10 }
 {
     match spell_header(frame) {
-        Some(octets) => octets,
-        None => unreachable!(),
+        Ok(octets) => octets,
+        Err(_) => unreachable!(),
     }
 }
 
 #[tactic(auto, unfolding(crate::specs::Frame::header))]
-fn spell_header(frame: &Gpdf) -> Option<Octets>
+fn spell_header(frame: &Gpdf) -> Result<Octets, NoRoom>
     requires { level_of frame.now ≤ 3 }
-    ensures { MatchOption result (127 < length (words.header frame.now)) (λ octets. octets ≡ words.header frame.now) }
+    ensures { MatchResult result (λ octets. octets ≡ words.header frame.now) (λ _. 127 < length (words.header frame.now)) }
 {
     let mut out = Octets::new();
     add_octet(&mut out, frame.control())?;
     add_ext(&mut out, frame.ext)?;
-    add_src(&mut out, frame.src)?;
+    add_src_if(&mut out, frame.src)?;
     add_number32_if(&mut out, frame.counter)?;
-    Some(out)
+    Ok(out)
 }
 
 // Whether the level is one that a frame may have, and each field is there where it is to be.
@@ -82,37 +82,29 @@ fn has_room(mpdu: &Mpdu) -> bool
     ensures widths { OnTrue result (HasWidths mpdu.now) }
 {
     match spell(mpdu) {
-        Some(octets) => is_short(octets.as_slice()),
-        None => false,
+        Ok(octets) => octets.as_slice().len() <= 125,
+        Err(_) => false,
     }
 }
 
-// Whether octets are at most 125, as many as an MPDU without FCS has.
-fn is_short(octets: &[u8]) -> bool
-    ensures room { IsTrue result ↔ (length octets.now ≤ 125) }
-    ensures octets { IsOctets octets.now }
-{
-    octets.len() <= 125
-}
-
 // The octets of a value, where they are at most 127.
-fn spell(mpdu: &Mpdu) -> Option<Octets>
+fn spell(mpdu: &Mpdu) -> Result<Octets, NoRoom>
     requires { level_of mpdu.now.frame ≤ 3 }
-    ensures octets { MatchOption result (127 < length (in_parts mpdu.now)) (λ octets. octets ≡ in_parts mpdu.now) }
-    ensures widths { OnSome result (HasWidths mpdu.now) }
+    ensures octets { MatchResult result (λ octets. octets ≡ in_parts mpdu.now) (λ _. 127 < length (in_parts mpdu.now)) }
+    ensures widths { OnOk result (HasWidths mpdu.now) }
 {
     let mut out = Octets::new();
     add_head(&mut out, mpdu)?;
     add_fields(&mut out, &mpdu.frame)?;
-    Some(out)
+    Ok(out)
 }
 
 #[tactic(auto, unfolding(crate::specs::Widths::head_octets))]
-fn add_head(out: &mut Octets, mpdu: &Mpdu) -> Option<()>
+fn add_head(out: &mut Octets, mpdu: &Mpdu) -> Result<(), NoRoom>
     ensures added { Adds (head_octets mpdu.now) out.old out.new result }
-    ensures seq { OnSome result (mpdu.now.seq < 2 ^ 8) }
-    ensures pan { OnSome result (mpdu.now.pan < 2 ^ 16) }
-    ensures dest { OnSome result (mpdu.now.dest < 2 ^ 16) }
+    ensures seq { OnOk result (mpdu.now.seq < 2 ^ 8) }
+    ensures pan { OnOk result (mpdu.now.pan < 2 ^ 16) }
+    ensures dest { OnOk result (mpdu.now.dest < 2 ^ 16) }
 {
     add(out, &[1, 8, mpdu.seq])?;
     add_number16(out, mpdu.pan)?;
@@ -121,36 +113,26 @@ fn add_head(out: &mut Octets, mpdu: &Mpdu) -> Option<()>
 }
 
 #[tactic(auto, unfolding(crate::specs::Widths::field_octets))]
-fn add_fields(out: &mut Octets, frame: &Gpdf) -> Option<()>
+fn add_fields(out: &mut Octets, frame: &Gpdf) -> Result<(), NoRoom>
     requires { level_of frame.now ≤ 3 }
     ensures added { Adds (field_octets frame.now) out.old out.new result }
-    ensures src { OnSome result (IfSome frame.now.src (λ src. src.0 < 2 ^ 32)) }
-    ensures counter { OnSome result (IfSome frame.now.counter (λ counter. counter < 2 ^ 32)) }
-    ensures mic { OnSome result (IfSome frame.now.mic (λ mic. length mic ≡ 4)) }
+    ensures src { OnOk result (IfSome frame.now.src (λ src. src.0 < 2 ^ 32)) }
+    ensures counter { OnOk result (IfSome frame.now.counter (λ counter. counter < 2 ^ 32)) }
+    ensures mic { OnOk result (IfSome frame.now.mic (λ mic. length mic ≡ 4)) }
 {
     add_ext(out, frame.ext)?;
-    add_src(out, frame.src)?;
+    add_src_if(out, frame.src)?;
     add_number32_if(out, frame.counter)?;
     add(out, frame.body.as_slice())?;
     add_mic_if(out, frame.mic)
 }
 
-fn add_ext(out: &mut Octets, ext: Option<Ext>) -> Option<()>
+fn add_ext(out: &mut Octets, ext: Option<Ext>) -> Result<(), NoRoom>
     requires { IfSome ext (λ e. e.level ≤ 3) }
     ensures { Adds (optional (λ e. octet (extension e)) ext) out.old out.new result }
 {
     match ext {
         Some(ext) => add_octet(out, ext.octet()),
-        None => Some(()),
-    }
-}
-
-fn add_src(out: &mut Octets, src: Option<Src>) -> Option<()>
-    ensures added { Adds (optional (λ s. to_le_bytes w32 s.0) src) out.old out.new result }
-    ensures width { IfSome src (λ s. s.0 < 2 ^ 32) }
-{
-    match src {
-        Some(src) => add(out, &src.0.to_le_bytes()),
-        None => Some(()),
+        None => Ok(()),
     }
 }
