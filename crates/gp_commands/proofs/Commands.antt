@@ -88,7 +88,7 @@ found b bytes room h =
     let tests = first_none (eqb (length b) 0) Empty _ h in
     let lt : 0 < length b = omega (arith, eqb-false (length b) 0 tests.0) in
     let spells = found_as (form_of (octet_at b 0)) b bytes lt refl tests.1 in
-    record { parts = spells.parts; form = spells.form; widths = spells.widths; room = room }
+    record { spelled = spells.parts; form = spells.form; widths = spells.widths; limit = room; are_octets = bytes }
 
 -- ---- what is spelled so is read
 
@@ -135,7 +135,7 @@ reading_of f b c r =
 pub again : (c : GpdCommand) (b : List ℕ) → Command c b → reading b ≡ Ok c
 again c b command =
     let r = reads c command.form command.widths in
-    subst (λ (l : List ℕ). reading l ≡ Ok c) (sym command.parts) (reading_of r.0 (spelling c) c r.1)
+    subst (λ (l : List ℕ). reading l ≡ Ok c) (sym command.spelled) (reading_of r.0 (spelling c) c r.1)
 
 -- ---- the clauses of the calls
 

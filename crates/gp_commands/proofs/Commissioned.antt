@@ -7,7 +7,7 @@ use Rattle.gp_commands.specs.Inside.{keying_octets}
 use Rattle.gp_commands.specs.declared.application.Application.{Application}
 use Rattle.gp_commands.specs.declared.command.Commissioning.{Commissioning}
 use Rattle.gp_commands.specs.declared.command.CommandReason.TheVariants.{Short, ReservedLevel, ReservedKeyKind}
-use Rattle.gp_commands.specs.declared.keying.Keying.{Keying}
+use Rattle.gp_commands.specs.Keying.{Keying}
 use Rattle.gp_commands.specs.Keying.{reserved}
 use Rattle.gp_commands.specs.Application.{clusters_size, clusters_agree}
 use Rattle.gp_commands.specs.Commissioning.{level, key_kind, wanted_by, commissioning, security_agrees, application_agrees, fields_agree, HasCommissioningWidths, extended_at, keying_place, application_place, rest_place, commissioning_reason, commissioning_at}

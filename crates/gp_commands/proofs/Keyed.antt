@@ -3,8 +3,8 @@ use Rattle.std.proofs.Common.{◌≡◌, ℕ, ◌+◌, ◌^◌, ◌<◌, ◌≤�
 use Rattle.std.specs.Int.{w32, to_le_bytes}
 use Rattle.gp_base.specs.Field.{IsOctets, four_at, optional, key_octets, size_if, value_if}
 use Rattle.gp_commands.specs.Inside.{keying_octets}
-use Rattle.gp_commands.specs.declared.keying.Keying.{Keying}
-use Rattle.gp_commands.specs.declared.keying.Wanted.{Wanted}
+use Rattle.gp_commands.specs.Keying.{Keying}
+use Rattle.gp_commands.specs.Keying.{Wanted}
 use Rattle.gp_commands.specs.Keying.{keying_size, keying_at}
 use Rattle.gp_base.proofs.Codec.{At, IsField, IsCodec, optional_codec, key_codec, octets_codec, number32_codec, join}
 

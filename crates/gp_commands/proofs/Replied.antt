@@ -7,7 +7,7 @@ use Rattle.gp_base.specs.Field.{IsOctets, has_bit, optional, octet, octet_at}
 use Rattle.gp_commands.specs.Inside.{keying_octets}
 use Rattle.gp_commands.specs.declared.command.Reply.{Reply}
 use Rattle.gp_commands.specs.declared.command.CommandReason.TheVariants.{Short, ReservedLevel, ReservedKeyKind}
-use Rattle.gp_commands.specs.declared.keying.Keying.{Keying}
+use Rattle.gp_commands.specs.Keying.{Keying}
 use Rattle.gp_commands.specs.Keying.{reserved}
 use Rattle.gp_commands.specs.Reply.{reply_level, reply_key_kind, reply_wanted, reply, reply_fields_agree, HasReplyWidths, reply_keying_place, reply_rest_place, reply_reason, reply_at}
 use Rattle.gp_base.proofs.Tables.{first_none}

@@ -5,7 +5,7 @@ use Rattle.std.proofs.lemmas.Bool.{ltb-true, and_parts}
 use Rattle.std.proofs.lemmas.Option.{same_Some}
 use Rattle.gp_commands.specs.declared.value.ValueSize.{ValueSize}
 use Rattle.gp_commands.specs.declared.value.ValueSize.TheVariants.{Rising, Fixed, Counted}
-use Rattle.gp_commands.specs.declared.value.ValueLine.{ValueLine}
+use Rattle.gp_commands.specs.Values.{ValueLine}
 use Rattle.gp_commands.specs.Values.{value_types, has_kind, size_as, size_by, size_in, value_size}
 
 abbrev is_positive : ValueSize → Bool

@@ -8,7 +8,7 @@ use Rattle.gp_commands.specs.declared.command.GpdCommand.{GpdCommand}
 use Rattle.gp_commands.specs.declared.command.GpdCommand.TheVariants.{Plain, Move, Step, Vector, Report, Commissioning, Reply, ChannelRequest, ChannelConfig, Other}
 use Rattle.gp_commands.specs.declared.command.CommandReason.{CommandReason}
 use Rattle.gp_commands.specs.declared.command.CommandReason.TheVariants.{Empty, Short}
-use Rattle.gp_base.specs.Field.{optional, octet, octet_at}
+use Rattle.gp_base.specs.Field.{IsOctets, optional, octet, octet_at}
 use Rattle.gp_base.specs.Table.{answer}
 use Rattle.gp_commands.specs.Forms.{report_id, commissioning_id, channel_request_id, reply_id, channel_config_id, form_of}
 use Rattle.gp_commands.specs.Level.{HasMoveRest, HasStepRest, move_at, step_at}
@@ -54,16 +54,15 @@ HasWidths _ = Unit {0}
 
 -- The octets, at most 117 of them, spell the command.
 pub record Command (c : GpdCommand) (octets : List ℕ) : Type 0 where
-  pub parts : octets ≡ spelling c
+  pub spelled : octets ≡ spelling c
   pub form : HasForm c
   pub widths : HasWidths c
-  pub room : length octets ≤ 117
+  pub limit : length octets ≤ 117
+  pub are_octets : IsOctets octets
 
--- Some octets spell the command. Each of them is below 256 where the command is a value of the program, whose fields
--- are octets and numbers of so many octets.
-pub record IsSound (c : GpdCommand) : Type 0 where
-  pub octets : List ℕ
-  pub spell : Command c octets
+-- some octets spell the command
+abbrev pub IsSound : GpdCommand → Type 0
+IsSound c = (octets : List ℕ) × Command c octets
 
 -- ---- the first fault, and what is read without one
 

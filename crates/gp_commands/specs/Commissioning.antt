@@ -1,14 +1,14 @@
 -- The Commissioning command (Zigbee PRO Green Power, A.4.2.1.1).
-use Rattle.std.specs.Prelude.{◌≡◌, ℕ, ◌+◌, ◌/◌, ◌%◌, ◌<◌, ◌^◌, ◌==◌, nat_lt, Bool, if◌then◌else◌, ◌&&◌, ◌||◌, List, [], ◌∷◌, length, drop, Option, is_some, is_none, unwrap_or, IfSome}
+use Rattle.std.specs.Prelude.{◌≡◌, ℕ, ◌+◌, ◌/◌, ◌%◌, ◌<◌, ◌^◌, nat_lt, Bool, if◌then◌else◌, ◌&&◌, List, [], ◌∷◌, ◌++◌, length, drop, Option, is_some, is_none, unwrap_or, IfSome}
 use Rattle.std.specs.Int.{w16, w32, to_le_bytes}
 use Rattle.gp_base.specs.Field.{has_bit, optional, agree, octet, key_octets, counted, joined, octet_at, size_if, value_if}
 use Rattle.gp_base.specs.Table.{first_of}
 use Rattle.gp_commands.specs.declared.command.Commissioning.{Commissioning}
 use Rattle.gp_commands.specs.declared.command.CommandReason.{CommandReason}
-use Rattle.gp_commands.specs.declared.command.CommandReason.TheVariants.{Short, ReservedLevel, ReservedKeyKind}
+use Rattle.gp_commands.specs.declared.command.CommandReason.TheVariants.{Short}
 use Rattle.gp_commands.specs.Application.{clusters_agree, application_end, application_at}
-use Rattle.gp_commands.specs.declared.keying.Wanted.{Wanted}
-use Rattle.gp_commands.specs.Keying.{reserved, keying_size, keying_at}
+use Rattle.gp_commands.specs.Keying.{Wanted}
+use Rattle.gp_commands.specs.Keying.{reserved, reserved_lines, keying_size, keying_at}
 
 -- ---- flags
 
@@ -100,10 +100,8 @@ abbrev pub commissioning_reason : List ℕ → Option CommandReason
 commissioning_reason octets =
     first_of
     ((nat_lt (length octets) (keying_place octets), Short (length octets))
-    ∷ (level (extended_at octets) == 1, ReservedLevel)
-    ∷ ((key_kind (extended_at octets) == 5) || (key_kind (extended_at octets) == 6), ReservedKeyKind)
-    ∷ (nat_lt (length octets) (rest_place octets), Short (length octets))
-    ∷ [])
+    ∷ (reserved_lines (level (extended_at octets)) (key_kind (extended_at octets))
+    ++ ((nat_lt (length octets) (rest_place octets), Short (length octets)) ∷ [])))
 
 -- what stands at the places
 abbrev pub commissioning_at : List ℕ → Commissioning

@@ -1,22 +1,12 @@
--- What private functions say: steps of a walk, and octets in the parts that the code adds. No public clause cites
--- this file.
-use Rattle.std.specs.Prelude.{◌≡◌, ℕ, ◌<◌, ◌≤◌, ◌^◌, List, [], ◌∷◌, ◌++◌, length, Option, IfSome}
-use Rattle.std.specs.Option.{MatchOption}
+-- What private functions say: octets in the parts that the code adds. No public clause cites this file, and nobody has
+-- to believe it.
+use Rattle.std.specs.Prelude.{◌≡◌, ℕ, ◌<◌, ◌^◌, List, [], ◌∷◌, ◌++◌, length, IfSome}
 use Rattle.std.specs.Int.{w16, w32, to_le_bytes}
 use Rattle.gp_base.specs.Field.{has_bit, optional, octet, key_octets, counted, joined, octet_at, value_if}
-use Rattle.gp_base.specs.Walk.{Walk}
 use Rattle.gp_commands.specs.declared.command.Commissioning.{Commissioning}
 use Rattle.gp_commands.specs.declared.command.Reply.{Reply}
 use Rattle.gp_commands.specs.declared.commissioning.Header.{Header}
-use Rattle.gp_commands.specs.declared.keying.Keying.{Keying}
-
--- ---- a step of a walk
-
--- What stands up to this place was taken; or an octet of it is missing.
-abbrev pub TakesTo : {X : Type 0} → ℕ → X → Walk → Walk → Option X → Type 0
-TakesTo end part old new taken =
-    MatchOption taken (length old.octets < end)
-    (λ x. (x ≡ part) × (new.octets ≡ old.octets) × (new.place ≡ end) × (end ≤ length old.octets))
+use Rattle.gp_commands.specs.Keying.{Keying}
 
 -- ---- key, MIC and counter
 

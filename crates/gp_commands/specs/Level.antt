@@ -1,4 +1,4 @@
--- Level control (Zigbee PRO Green Power, A.4.2.1: Move and Step).
+-- Level control, Move and Step (Zigbee PRO Green Power, A.4.2).
 use Rattle.std.specs.Prelude.{◌≡◌, ℕ, ◌+◌, ◌≤◌, nat_le, List, [], length, drop, Option, IfNone}
 use Rattle.gp_commands.specs.declared.command.GpdCommand.{GpdCommand}
 use Rattle.gp_commands.specs.declared.command.GpdCommand.TheVariants.{Move, Step}

@@ -1,13 +1,13 @@
 -- The Commissioning Reply command (Zigbee PRO Green Power, A.4.2, Commissioning Reply command).
-use Rattle.std.specs.Prelude.{◌≡◌, ℕ, ◌+◌, ◌/◌, ◌%◌, ◌^◌, ◌<◌, ◌==◌, IfSome, nat_lt, Bool, ◌&&◌, ◌||◌, List, [], ◌∷◌, length, drop, Option, is_some, is_none}
+use Rattle.std.specs.Prelude.{◌≡◌, ℕ, ◌+◌, ◌/◌, ◌%◌, ◌^◌, ◌<◌, IfSome, nat_lt, Bool, ◌&&◌, List, [], ◌∷◌, ◌++◌, length, drop, Option, is_some, is_none}
 use Rattle.std.specs.Int.{w16, w32, to_le_bytes}
 use Rattle.gp_base.specs.Field.{has_bit, optional, two_at, agree, octet, key_octets, joined, octet_at, size_if, value_if}
 use Rattle.gp_base.specs.Table.{first_of}
 use Rattle.gp_commands.specs.declared.command.Reply.{Reply}
 use Rattle.gp_commands.specs.declared.command.CommandReason.{CommandReason}
-use Rattle.gp_commands.specs.declared.command.CommandReason.TheVariants.{Short, ReservedLevel, ReservedKeyKind}
-use Rattle.gp_commands.specs.declared.keying.Wanted.{Wanted}
-use Rattle.gp_commands.specs.Keying.{reserved, keying_size, keying_at}
+use Rattle.gp_commands.specs.declared.command.CommandReason.TheVariants.{Short}
+use Rattle.gp_commands.specs.Keying.{Wanted}
+use Rattle.gp_commands.specs.Keying.{reserved, reserved_lines, keying_size, keying_at}
 
 -- ---- flags
 
@@ -69,10 +69,8 @@ abbrev pub reply_reason : List ℕ → Option CommandReason
 reply_reason octets =
     first_of
     ((nat_lt (length octets) 2, Short (length octets))
-    ∷ (reply_level (octet_at octets 1) == 1, ReservedLevel)
-    ∷ ((reply_key_kind (octet_at octets 1) == 5) || (reply_key_kind (octet_at octets 1) == 6), ReservedKeyKind)
-    ∷ (nat_lt (length octets) (reply_rest_place octets), Short (length octets))
-    ∷ [])
+    ∷ (reserved_lines (reply_level (octet_at octets 1)) (reply_key_kind (octet_at octets 1))
+    ++ ((nat_lt (length octets) (reply_rest_place octets), Short (length octets)) ∷ [])))
 
 -- what stands at the places
 abbrev pub reply_at : List ℕ → Reply

@@ -1,4 +1,4 @@
--- Attribute reports (Zigbee PRO Green Power, A.4.2.3; Zigbee Cluster Library, 2.5.11).
+-- Attribute reports (Zigbee PRO Green Power, A.4.2; Zigbee Cluster Library, 2.5.11).
 use Rattle.std.specs.Prelude.{◌≡◌, ℕ, zero, suc, ◌+◌, ◌==◌, nat_lt, List, [], ◌∷◌, ◌++◌, length, drop, Option, Some, None, is_none, unwrap_or, if◌then◌else◌}
 use Rattle.std.specs.List.{flat_map, AllByRecursion}
 use Rattle.gp_base.specs.Field.{two_at, octet_at}

@@ -2,11 +2,15 @@
 use Rattle.std.specs.Prelude.{ℕ, ◌+◌, ◌-◌, ◌==◌, ◌&&◌, nat_le, Bool, List, [], ◌∷◌, Option, Some, None, if◌then◌else◌}
 use Rattle.gp_commands.specs.declared.value.ValueSize.{ValueSize}
 use Rattle.gp_commands.specs.declared.value.ValueSize.TheVariants.{Rising, Fixed, Counted}
-use Rattle.gp_commands.specs.declared.value.ValueLine.{ValueLine}
 
 -- ---- the table
 
 -- the types from the first to the last, whose values have one rule for their size
+pub record ValueLine : Type 0 where
+  pub first : ℕ
+  pub last : ℕ
+  pub size : ValueSize
+
 abbrev pub line : ℕ → ℕ → ValueSize → ValueLine
 line first last size = record { first = first; last = last; size = size }
 

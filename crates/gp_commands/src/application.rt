@@ -1,17 +1,17 @@
 //! The application information of a Commissioning.
 
-ghost use Rattle.std.specs.Prelude.{◌≡◌, ◌+◌, ◌<◌, ◌≤◌, ◌^◌, length, IfSome, OnSome};
+ghost use Rattle.std.specs.Prelude.{◌≡◌, ◌+◌, ◌<◌, ◌≤◌, ◌^◌, length, IfSome, OnOk};
 ghost use Rattle.gp_base.specs.Field.{part, Adds, octet_at, size_if, value_if};
-ghost use Rattle.gp_base.specs.Walk.{Takes, IsWithin};
-ghost use Rattle.gp_commands.specs.Inside.{TakesTo, application_octets};
+ghost use Rattle.gp_base.specs.Walk.{Takes, TakesTo, IsWithin};
+ghost use Rattle.gp_commands.specs.Inside.{application_octets};
 ghost use Rattle.gp_commands.specs.Application as words;
 ghost use Rattle.gp_commands.specs.Application.{application_end, application_at};
 ghost use Rattle.gp_commands.specs.Commissioning as flags;
 
 use crate::command::Commissioning;
 use gp_base::field::{
-    add, add_counted_if, add_number16_if, add_octet, add_octet_if, add_octets_if, is_set,
-    number16_if, octet, octet_if, octet_or_zero, octets,
+    NoRoom, Short, add_counted_if, add_number16_if, add_octet_if, add_octets_if, counted_if,
+    is_set, number16_if, octet_if, octet_or_zero, octets,
 };
 use gp_base::{Octets, Reader};
 
@@ -36,42 +36,26 @@ pub(crate) fn clusters_size(counts: u8) -> usize
     2 * ((counts % 16) as usize + (counts / 16) as usize)
 }
 
-/// Takes a list that stands behind its length.
-fn counted_if(reader: &mut Reader, there: bool) -> Option<Option<Octets>>
+/// Takes clusters, whose first octet says how many octets follow.
+fn clusters_if(reader: &mut Reader, there: bool) -> Result<Option<Octets>, Short>
     requires within { IsWithin reader.old }
     requires room { length reader.old.octets ≤ 127 }
-    ensures { Takes (size_if there (1 + octet_at reader.old.octets reader.old.place))
-        (value_if there (part reader.old.octets (reader.old.place + 1) (octet_at reader.old.octets reader.old.place)))
-        reader.old reader.new result }
-{
-    if !there {
-        return Some(None);
-    }
-    let count = octet(reader)?;
-    Some(Some(octets(reader, count as usize)?))
-}
-
-/// Takes clusters, whose first octet says how many octets follow.
-fn clusters_if(reader: &mut Reader, there: bool) -> Option<Option<Octets>>
-    requires { IsWithin reader.old }
     ensures { Takes (size_if there (1 + words.clusters_size (octet_at reader.old.octets reader.old.place)))
         (value_if there (part reader.old.octets reader.old.place (1 + words.clusters_size (octet_at reader.old.octets reader.old.place))))
         reader.old reader.new result }
 {
     if !there {
-        return Some(None);
+        return Ok(None);
     }
-    let counts = octet(reader)?;
-    let list = reader.take(clusters_size(counts))?;
-    let mut clusters = Octets::new();
-    add_octet(&mut clusters, counts)?;
-    add(&mut clusters, list)?;
-    Some(Some(clusters))
+    let Some(counts) = reader.peek() else {
+        return Err(Short);
+    };
+    Ok(Some(octets(reader, 1 + clusters_size(counts))?))
 }
 
 /// Takes the application information, which is there by bit 2 of a Commissioning's options.
 #[tactic(auto, unfolding(crate::specs::Application::application_end, crate::specs::Application::application_at))]
-pub(crate) fn take_application(reader: &mut Reader, options: u8) -> Option<Application>
+pub(crate) fn take_application(reader: &mut Reader, options: u8) -> Result<Application, Short>
     requires within { IsWithin reader.old }
     requires room { length reader.old.octets ≤ 127 }
     ensures { TakesTo (application_end options reader.old.octets reader.old.place)
@@ -83,7 +67,7 @@ pub(crate) fn take_application(reader: &mut Reader, options: u8) -> Option<Appli
     let model = number16_if(reader, is_set(flags, 2))?;
     let commands = counted_if(reader, is_set(flags, 4))?;
     let clusters = clusters_if(reader, is_set(flags, 8))?;
-    Some(Application {
+    Ok(Application {
         information,
         manufacturer,
         model,
@@ -121,10 +105,10 @@ fn clusters_agree(clusters: &Option<Octets>) -> bool
 
 /// Adds the application information.
 #[tactic(auto, unfolding(crate::specs::Inside::application_octets))]
-pub(crate) fn add_application(out: &mut Octets, command: &Commissioning) -> Option<()>
+pub(crate) fn add_application(out: &mut Octets, command: &Commissioning) -> Result<(), NoRoom>
     ensures added { Adds (application_octets command.now) out.old out.new result }
-    ensures manufacturer { OnSome result (IfSome command.now.manufacturer (λ n. n < 2 ^ 16)) }
-    ensures model { OnSome result (IfSome command.now.model (λ n. n < 2 ^ 16)) }
+    ensures manufacturer { OnOk result (IfSome command.now.manufacturer (λ n. n < 2 ^ 16)) }
+    ensures model { OnOk result (IfSome command.now.model (λ n. n < 2 ^ 16)) }
 {
     add_octet_if(out, command.application)?;
     add_number16_if(out, command.manufacturer)?;

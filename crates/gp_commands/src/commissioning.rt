@@ -1,15 +1,16 @@
 //! The Commissioning command.
 
-ghost use Rattle.std.specs.Prelude.{◌≡◌, ◌≤◌, length, OnSome};
+ghost use Rattle.std.specs.Prelude.{◌≡◌, ◌≤◌, length, OnOk};
 ghost use Rattle.gp_base.specs.Field.{Adds};
 ghost use Rattle.gp_base.specs.Table.{answer};
-ghost use Rattle.gp_commands.specs.Inside.{TakesTo, header_at, commissioning_in_parts, header_octets};
+ghost use Rattle.gp_base.specs.Walk.{TakesTo};
+ghost use Rattle.gp_commands.specs.Inside.{header_at, commissioning_in_parts, header_octets};
 ghost use Rattle.gp_commands.specs.Commissioning.{keying_place, commissioning_reason, commissioning_at, commissioning, HasCommissioningWidths};
 
 use crate::application::{add_application, application_agrees, take_application};
 use crate::command::{CommandReason, Commissioning, short};
 use crate::keying::{Keying, Wanted, add_keying, reserved_reason, take_keying};
-use gp_base::field::{add, add_octet, add_octet_if, is_set, octet, octet_if, rest};
+use gp_base::field::{NoRoom, Short, add, add_octet, add_octet_if, is_set, octet, octet_if, rest};
 use gp_base::{Octets, Reader};
 
 /// What stands before the keys.
@@ -21,14 +22,14 @@ struct Header {
 }
 
 /// Takes the header.
-fn take_header(reader: &mut Reader) -> Option<Header>
+fn take_header(reader: &mut Reader) -> Result<Header, Short>
     requires { reader.old.place ≡ 1 }
     ensures { TakesTo (keying_place reader.old.octets) (header_at reader.old.octets) reader.old reader.new result }
 {
     let device = octet(reader)?;
     let options = octet(reader)?;
     let extended = octet_if(reader, is_set(options, 128))?;
-    Some(Header {
+    Ok(Header {
         device,
         options,
         extended,
@@ -58,17 +59,17 @@ pub(crate) fn read_commissioning(
     requires room { length octets.now ≤ 117 }
     ensures { result ≡ answer (commissioning_reason octets.now) (commissioning_at octets.now) }
 {
-    let Some(header) = take_header(reader) else {
+    let Ok(header) = take_header(reader) else {
         return Err(short(octets));
     };
     let extended = header.extended.unwrap_or(0);
     if let Some(reason) = reserved_reason(extended % 4, extended / 4 % 8) {
         return Err(reason);
     }
-    let Some(keying) = take_keying(reader, wanted_by(extended)) else {
+    let Ok(keying) = take_keying(reader, wanted_by(extended)) else {
         return Err(short(octets));
     };
-    let Some(application) = take_application(reader, header.options) else {
+    let Ok(application) = take_application(reader, header.options) else {
         return Err(short(octets));
     };
     Ok(Commissioning {
@@ -110,17 +111,17 @@ fn security_agrees(command: &Commissioning) -> bool
 }
 
 /// Adds a Commissioning without its identifier.
-pub(crate) fn add_commissioning(out: &mut Octets, command: &Commissioning) -> Option<()>
+pub(crate) fn add_commissioning(out: &mut Octets, command: &Commissioning) -> Result<(), NoRoom>
     ensures added { Adds (commissioning command.now) out.old out.new result }
-    ensures widths { OnSome result (HasCommissioningWidths command.now) }
+    ensures widths { OnOk result (HasCommissioningWidths command.now) }
 {
     add_parts(out, command)
 }
 
 /// Adds its three parts and the rest.
-fn add_parts(out: &mut Octets, command: &Commissioning) -> Option<()>
+fn add_parts(out: &mut Octets, command: &Commissioning) -> Result<(), NoRoom>
     ensures added { Adds (commissioning_in_parts command.now) out.old out.new result }
-    ensures widths { OnSome result (HasCommissioningWidths command.now) }
+    ensures widths { OnOk result (HasCommissioningWidths command.now) }
 {
     add_header(out, command)?;
     add_keying(
@@ -137,7 +138,7 @@ fn add_parts(out: &mut Octets, command: &Commissioning) -> Option<()>
 
 /// Adds the header.
 #[tactic(auto, unfolding(crate::specs::Inside::header_octets))]
-fn add_header(out: &mut Octets, command: &Commissioning) -> Option<()>
+fn add_header(out: &mut Octets, command: &Commissioning) -> Result<(), NoRoom>
     ensures { Adds (header_octets command.now) out.old out.new result }
 {
     add_octet(out, command.device)?;

@@ -1,12 +1,16 @@
 //! Move and Step of level control.
 
-ghost use Rattle.std.specs.Prelude.{◌≡◌, ◌<◌, ◌≤◌, ◌^◌, ◌↔◌, ◌∷◌, ◌++◌, length, nat_lt, Some, None, IsTrue, IfSome, OnSome, if◌then◌else◌};
+ghost use Rattle.std.specs.Prelude.{◌≡◌, ◌<◌, ◌≤◌, ◌^◌, ◌↔◌, ◌∷◌, ◌++◌, length, IsTrue, IfSome, OnOk};
 ghost use Rattle.std.specs.Int.{w16, to_le_bytes};
 ghost use Rattle.gp_base.specs.Field.{optional, Adds, octet as one, octet_at};
+ghost use Rattle.gp_base.specs.Table.{answer};
+ghost use Rattle.gp_commands.specs.Command.{ends_before};
 ghost use Rattle.gp_commands.specs.Level.{move_at, step_at, HasMoveRest, HasStepRest};
 
-use crate::command::GpdCommand;
-use gp_base::field::{add, add_number16_if, add_octet, add_octet_if, number16, octet, rest};
+use crate::command::{CommandReason, GpdCommand, short};
+use gp_base::field::{
+    NoRoom, add, add_number16_if, add_octet, add_octet_if, number16, octet, rest,
+};
 use gp_base::{Octets, Reader};
 
 /// Reads a Move after its identifier: the rate is there where an octet is left.
@@ -17,23 +21,30 @@ pub(crate) fn read_move(id: u8, reader: &mut Reader) -> GpdCommand
     requires room { length reader.old.octets ≤ 117 }
     ensures { result ≡ move_at reader.old.octets }
 {
-    let rate = octet(reader);
+    let rate = octet(reader).ok();
     let rest = rest(reader);
     GpdCommand::Move { id, rate, rest }
 }
 
-/// Reads a Step after its identifier, `None` where its size is missing. The time is there where two octets are
+/// Reads a Step after its identifier and its size. The time is there where two octets are
 /// left after the size; where one is left, that octet is the rest.
-pub(crate) fn read_step(id: u8, reader: &mut Reader) -> Option<GpdCommand>
-    requires identifier { id ≡ octet_at reader.old.octets 0 }
+pub(crate) fn read_step(
+    octets: &[u8],
+    id: u8,
+    reader: &mut Reader,
+) -> Result<GpdCommand, CommandReason>
+    requires same { reader.old.octets ≡ octets.now }
+    requires identifier { id ≡ octet_at octets.now 0 }
     requires place { reader.old.place ≡ 1 }
-    requires room { length reader.old.octets ≤ 117 }
-    ensures { result ≡ (if nat_lt (length reader.old.octets) 2 then None else Some (step_at reader.old.octets)) }
+    requires room { length octets.now ≤ 117 }
+    ensures { result ≡ answer (ends_before 2 octets.now) (step_at octets.now) }
 {
-    let size = octet(reader)?;
-    let time = number16(reader);
+    let Ok(size) = octet(reader) else {
+        return Err(short(octets));
+    };
+    let time = number16(reader).ok();
     let rest = rest(reader);
-    Some(GpdCommand::Step {
+    Ok(GpdCommand::Step {
         id,
         size,
         time,
@@ -56,7 +67,12 @@ pub(crate) fn has_step_rest(time: Option<u16>, rest: &Octets) -> bool
 }
 
 /// Adds a Move.
-pub(crate) fn add_move(out: &mut Octets, id: u8, rate: Option<u8>, rest: &Octets) -> Option<()>
+pub(crate) fn add_move(
+    out: &mut Octets,
+    id: u8,
+    rate: Option<u8>,
+    rest: &Octets,
+) -> Result<(), NoRoom>
     ensures { Adds (id ∷ (optional one rate ++ rest.now)) out.old out.new result }
 {
     add_octet(out, id)?;
@@ -71,9 +87,9 @@ pub(crate) fn add_step(
     size: u8,
     time: Option<u16>,
     rest: &Octets,
-) -> Option<()>
+) -> Result<(), NoRoom>
     ensures added { Adds (id ∷ size ∷ (optional (to_le_bytes w16) time ++ rest.now)) out.old out.new result }
-    ensures width { OnSome result (IfSome time (λ n. n < 2 ^ 16)) }
+    ensures width { OnOk result (IfSome time (λ n. n < 2 ^ 16)) }
 {
     add(out, &[id, size])?;
     add_number16_if(out, time)?;

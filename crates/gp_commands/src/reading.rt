@@ -46,7 +46,7 @@ fn read_single(octets: &[u8], reader: &mut Reader) -> Result<(u8, Octets), Comma
     requires room { length octets.now ≤ 117 }
     ensures { result ≡ answer (ends_before 2 octets.now) (octet_at octets.now 1, drop 2 octets.now) }
 {
-    let Some(value) = octet(reader) else {
+    let Ok(value) = octet(reader) else {
         return Err(short(octets));
     };
     Ok((value, rest(reader)))
@@ -59,7 +59,7 @@ fn read_all(octets: &[u8]) -> Result<GpdCommand, CommandReason>
     ensures { result ≡ reading octets.now }
 {
     let mut reader = Reader::new(octets);
-    let Some(id) = octet(&mut reader) else {
+    let Ok(id) = octet(&mut reader) else {
         return Err(CommandReason::Empty);
     };
     match form_of(id) {
@@ -68,7 +68,7 @@ fn read_all(octets: &[u8]) -> Result<GpdCommand, CommandReason>
             rest: rest(&mut reader),
         }),
         Form::Move => Ok(read_move(id, &mut reader)),
-        Form::Step => read_step(id, &mut reader).ok_or(short(octets)),
+        Form::Step => read_step(octets, id, &mut reader),
         Form::Vector => {
             let (value, rest) = read_single(octets, &mut reader)?;
             Ok(GpdCommand::Vector { id, value, rest })

@@ -1,6 +1,6 @@
 //! The Commissioning Reply command.
 
-ghost use Rattle.std.specs.Prelude.{◌≡◌, ◌≤◌, ◌<◌, ◌^◌, length, IfSome, OnSome};
+ghost use Rattle.std.specs.Prelude.{◌≡◌, ◌≤◌, ◌<◌, ◌^◌, length, IfSome, OnOk};
 ghost use Rattle.gp_base.specs.Field.{Adds};
 ghost use Rattle.gp_base.specs.Table.{answer};
 ghost use Rattle.gp_commands.specs.Inside.{reply_in_parts, reply_header_octets};
@@ -8,7 +8,7 @@ ghost use Rattle.gp_commands.specs.Reply.{reply_reason, reply_at, reply_fields_a
 
 use crate::command::{CommandReason, Reply, short};
 use crate::keying::{Keying, Wanted, add_keying, reserved_reason, take_keying};
-use gp_base::field::{add, add_number16_if, add_octet, is_set, number16_if, octet, rest};
+use gp_base::field::{NoRoom, add, add_number16_if, add_octet, is_set, number16_if, octet, rest};
 use gp_base::{Octets, Reader};
 
 /// Which of key, MIC and counter the options say to be there.
@@ -31,16 +31,16 @@ pub(crate) fn read_reply(octets: &[u8], reader: &mut Reader) -> Result<Reply, Co
     requires room { length octets.now ≤ 117 }
     ensures { result ≡ answer (reply_reason octets.now) (reply_at octets.now) }
 {
-    let Some(options) = octet(reader) else {
+    let Ok(options) = octet(reader) else {
         return Err(short(octets));
     };
     if let Some(reason) = reserved_reason(options / 8 % 4, options / 32) {
         return Err(reason);
     }
-    let Some(pan) = number16_if(reader, is_set(options, 1)) else {
+    let Ok(pan) = number16_if(reader, is_set(options, 1)) else {
         return Err(short(octets));
     };
-    let Some(keying) = take_keying(reader, wanted_by(options)) else {
+    let Ok(keying) = take_keying(reader, wanted_by(options)) else {
         return Err(short(octets));
     };
     Ok(Reply {
@@ -67,17 +67,17 @@ pub(crate) fn fields_agree(reply: &Reply) -> bool
 }
 
 /// Adds a Reply without its identifier.
-pub(crate) fn add_reply(out: &mut Octets, reply: &Reply) -> Option<()>
+pub(crate) fn add_reply(out: &mut Octets, reply: &Reply) -> Result<(), NoRoom>
     ensures added { Adds (Rattle.gp_commands.specs.Reply.reply reply.now) out.old out.new result }
-    ensures widths { OnSome result (HasReplyWidths reply.now) }
+    ensures widths { OnOk result (HasReplyWidths reply.now) }
 {
     add_parts(out, reply)
 }
 
 /// Adds its two parts and the rest.
-fn add_parts(out: &mut Octets, reply: &Reply) -> Option<()>
+fn add_parts(out: &mut Octets, reply: &Reply) -> Result<(), NoRoom>
     ensures added { Adds (reply_in_parts reply.now) out.old out.new result }
-    ensures widths { OnSome result (HasReplyWidths reply.now) }
+    ensures widths { OnOk result (HasReplyWidths reply.now) }
 {
     add_header(out, reply)?;
     add_keying(
@@ -93,9 +93,9 @@ fn add_parts(out: &mut Octets, reply: &Reply) -> Option<()>
 
 /// Adds the part before the key.
 #[tactic(auto, unfolding(crate::specs::Inside::reply_header_octets))]
-fn add_header(out: &mut Octets, reply: &Reply) -> Option<()>
+fn add_header(out: &mut Octets, reply: &Reply) -> Result<(), NoRoom>
     ensures added { Adds (reply_header_octets reply.now) out.old out.new result }
-    ensures pan { OnSome result (IfSome reply.now.pan (λ n. n < 2 ^ 16)) }
+    ensures pan { OnOk result (IfSome reply.now.pan (λ n. n < 2 ^ 16)) }
 {
     add_octet(out, reply.options)?;
     add_number16_if(out, reply.pan)

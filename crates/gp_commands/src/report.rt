@@ -1,6 +1,6 @@
 //! Attribute reports.
 
-ghost use Rattle.std.specs.Prelude.{◌≡◌, ◌<◌, ◌≤◌, ◌^◌, ◌↔◌, ◌∷◌, ◌++◌, length, IsTrue, OnSome};
+ghost use Rattle.std.specs.Prelude.{◌≡◌, ◌<◌, ◌≤◌, ◌^◌, ◌↔◌, ◌∷◌, ◌++◌, length, IsTrue, OnOk};
 ghost use Rattle.gp_base.specs.Field.{Adds};
 ghost use Rattle.gp_base.specs.Table.{answer};
 ghost use Rattle.gp_commands.specs.Report.{entries_reason, report_reason, report_at, entry_reason, next_place, AreRecords};
@@ -10,7 +10,7 @@ ghost use Rattle.std.specs.Int.{w16, to_le_bytes};
 use crate::command::{CommandReason, GpdCommand, short};
 use crate::form::REPORT;
 use crate::value::value_size;
-use gp_base::field::{add, add_number16, add_octet, number16, octet_or_zero, rest};
+use gp_base::field::{NoRoom, add, add_number16, add_octet, number16, octet_or_zero, rest};
 use gp_base::{Octets, Reader};
 
 /// Reads a report after its identifier: a cluster, and entries to the end.
@@ -20,7 +20,7 @@ pub(crate) fn read_report(octets: &[u8], reader: &mut Reader) -> Result<GpdComma
     requires room { length octets.now ≤ 117 }
     ensures { result ≡ answer (report_reason octets.now) (report_at octets.now) }
 {
-    let Some(cluster) = number16(reader) else {
+    let Ok(cluster) = number16(reader) else {
         return Err(short(octets));
     };
     if let Some(reason) = first_bad_entry(octets, 3) {
@@ -78,9 +78,9 @@ pub(crate) fn are_records(octets: &[u8]) -> bool
 }
 
 /// Adds a report.
-pub(crate) fn add_report(out: &mut Octets, cluster: u16, records: &Octets) -> Option<()>
+pub(crate) fn add_report(out: &mut Octets, cluster: u16, records: &Octets) -> Result<(), NoRoom>
     ensures added { Adds (report_id ∷ (to_le_bytes w16 cluster ++ records.now)) out.old out.new result }
-    ensures width { OnSome result (cluster < 2 ^ 16) }
+    ensures width { OnOk result (cluster < 2 ^ 16) }
 {
     add_octet(out, REPORT)?;
     add_number16(out, cluster)?;

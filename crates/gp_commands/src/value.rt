@@ -3,6 +3,8 @@
 ghost use Rattle.std.specs.Prelude.{◌≡◌, IsTrue};
 ghost use Rattle.gp_commands.specs.Values.{size_in, size_by, has_kind};
 
+use std::marker::Model;
+
 /// How many octets a value has.
 #[derive(Clone, Copy, Debug, PartialEq, Eq)]
 pub(crate) enum ValueSize {
@@ -15,11 +17,19 @@ pub(crate) enum ValueSize {
 }
 
 /// Types from the first to the last, whose values have one rule for their size.
-#[derive(Clone, Copy, Debug)]
+#[derive(Debug, Drop)]
 pub(crate) struct ValueLine {
     pub first: u8,
     pub last: u8,
     pub size: ValueSize,
+}
+
+impl Model for ValueLine {
+    ghost use Rattle.gp_commands.specs.Values.{ValueLine as Told};
+
+    ghost Value = { Told };
+
+    ghost view = { λ l. record { first = l.first; last = l.last; size = l.size } };
 }
 
 impl ValueLine {

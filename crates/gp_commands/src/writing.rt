@@ -1,8 +1,8 @@
 //! Which commands have a spelling, and that spelling.
 
-ghost use Rattle.std.specs.Prelude.{◌≡◌, ◌∷◌, ◌<◌, ◌≤◌, ◌↔◌, length, IsTrue, OnSome, MatchOption};
+ghost use Rattle.std.specs.Prelude.{◌≡◌, ◌∷◌, ◌<◌, ◌≤◌, ◌↔◌, length, IsTrue, OnOk, MatchResult};
 ghost use Rattle.std.specs.Bool.{OnTrue};
-ghost use Rattle.gp_base.specs.Field.{Adds};
+ghost use Rattle.gp_base.specs.Field.{Adds, IsOctets};
 ghost use Rattle.gp_commands.specs.Command.{Command, IsSound, spelling, HasForm, HasWidths};
 
 use crate::command::GpdCommand;
@@ -12,7 +12,7 @@ use crate::level::{add_move, add_step, has_move_rest, has_step_rest};
 use crate::reply::{self, add_reply};
 use crate::report::{add_report, are_records};
 use gp_base::Octets;
-use gp_base::field::{add, add_octet};
+use gp_base::field::{NoRoom, add, add_octet};
 
 /// Whether a command has a spelling (Zigbee PRO Green Power, A.4.1 and A.4.2): exactly where some octets, at most 117
 /// of them, read as it.
@@ -30,8 +30,8 @@ pub fn write(command: &GpdCommand) -> Octets
     ensures spelled { Command command.now result }
 {
     match spell(command) {
-        Some(octets) => octets,
-        None => unreachable!(),
+        Ok(octets) => octets,
+        Err(_) => unreachable!(),
     }
 }
 
@@ -39,10 +39,11 @@ pub fn write(command: &GpdCommand) -> Octets
 fn has_room(command: &GpdCommand) -> bool
     ensures room { IsTrue result ↔ (length (spelling command.now) ≤ 117) }
     ensures widths { OnTrue result (HasWidths command.now) }
+    ensures octets { OnTrue result (IsOctets (spelling command.now)) }
 {
     match spell(command) {
-        Some(octets) => octets.as_slice().len() <= 117,
-        None => false,
+        Ok(octets) => octets.as_slice().len() <= 117,
+        Err(_) => false,
     }
 }
 
@@ -68,21 +69,21 @@ pub(crate) fn has_form(command: &GpdCommand) -> bool
     }
 }
 
-/// The octets of a command, `None` where they are more than 127.
-pub(crate) fn spell(command: &GpdCommand) -> Option<Octets>
-    ensures octets { MatchOption result (127 < length (spelling command.now)) (λ octets. octets ≡ spelling command.now) }
-    ensures widths { OnSome result (HasWidths command.now) }
+/// The octets of a command, `NoRoom` where they are more than 127.
+pub(crate) fn spell(command: &GpdCommand) -> Result<Octets, NoRoom>
+    ensures octets { MatchResult result (λ octets. octets ≡ spelling command.now) (λ _. 127 < length (spelling command.now)) }
+    ensures widths { OnOk result (HasWidths command.now) }
 {
     let mut out = Octets::new();
     add_command(&mut out, command)?;
-    Some(out)
+    Ok(out)
 }
 
 /// Adds a command.
 #[tactic(auto, unfolding(crate::specs::Command::spelling))]
-fn add_command(out: &mut Octets, command: &GpdCommand) -> Option<()>
+fn add_command(out: &mut Octets, command: &GpdCommand) -> Result<(), NoRoom>
     ensures added { Adds (spelling command.now) out.old out.new result }
-    ensures widths { OnSome result (HasWidths command.now) }
+    ensures widths { OnOk result (HasWidths command.now) }
 {
     match command {
         GpdCommand::Plain { id, rest } => add_one(out, *id, rest),
@@ -110,7 +111,7 @@ fn add_command(out: &mut Octets, command: &GpdCommand) -> Option<()>
 }
 
 /// Adds one octet and the rest.
-fn add_one(out: &mut Octets, id: u8, rest: &Octets) -> Option<()>
+fn add_one(out: &mut Octets, id: u8, rest: &Octets) -> Result<(), NoRoom>
     ensures { Adds (id ∷ rest.now) out.old out.new result }
 {
     add_octet(out, id)?;
@@ -118,7 +119,7 @@ fn add_one(out: &mut Octets, id: u8, rest: &Octets) -> Option<()>
 }
 
 /// Adds two octets and the rest.
-fn add_two(out: &mut Octets, id: u8, value: u8, rest: &Octets) -> Option<()>
+fn add_two(out: &mut Octets, id: u8, value: u8, rest: &Octets) -> Result<(), NoRoom>
     ensures { Adds (id ∷ value ∷ rest.now) out.old out.new result }
 {
     add(out, &[id, value])?;
