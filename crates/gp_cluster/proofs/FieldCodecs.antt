@@ -3,9 +3,9 @@ use Rattle.std.proofs.Common.{◌≡◌, ℕ, zero, suc, ◌+◌, ◌^◌, ◌<�
 use Rattle.std.specs.Int.{w64, from_le_bytes, to_le_bytes}
 use Rattle.std.proofs.lemmas.Bool.{eqb-true, eqb-false, ne_eqb}
 use Rattle.std.proofs.lemmas.Nat.{le_bytes_4, le_bytes_8, from_le_bytes-to_le_bytes_8}
-use Rattle.gp_base.specs.Field.{IsOctets, octet_at, part, size_if, value_if}
-use Rattle.gp_base.proofs.Codec.{At, At-after, At-octet, IsCodec, split_octet, length-octets_at, octet_codec, number16_codec, counted_codec, fixed_codec, retold, octet_of_part, first_of_part}
-use Rattle.gp_cluster.specs.Fields.{three_octets, three_at, eight_at, octet_string, IsString, string_size, string_at, proxy_octets, proxy_at, sink_octets, sink_at}
+use Rattle.gp_base.specs.Field.{IsOctets, octet_at, eight_at, part, size_if, value_if}
+use Rattle.gp_base.proofs.Codec.{At, At-after, At-octet, IsCodec, split_octet, length-octets_at, octet_codec, number16_codec, counted_codec, fixed_codec, retold, eight_told, octet_of_part, first_of_part}
+use Rattle.gp_cluster.specs.Fields.{three_octets, three_at, octet_string, IsString, string_size, string_at, proxy_octets, proxy_at, sink_octets, sink_at}
 
 -- ---- codecs from codecs
 
@@ -63,19 +63,6 @@ number24_codec = retold _ _ _ _ (fixed_codec 3 three_octets (λ xs. three_at xs 
   fit = λ xs bytes len. omega (arith, bytes 0, bytes 1, bytes 2);
   again = λ n lt. omega (arith, lt);
 })) three_at three_told
-
-eight_told : (b : List ℕ) (p : ℕ) → eight_at b p ≡ from_le_bytes w64 (part b p 8)
-eight_told b p =
-    rw (
-      first_of_part b p 8 (omega arith),
-      octet_of_part b p 8 1 (omega arith),
-      octet_of_part b p 8 2 (omega arith),
-      octet_of_part b p 8 3 (omega arith),
-      octet_of_part b p 8 4 (omega arith),
-      octet_of_part b p 8 5 (omega arith),
-      octet_of_part b p 8 6 (omega arith),
-      octet_of_part b p 8 7 (omega arith),
-    ) refl
 
 number64_codec : IsCodec (to_le_bytes w64) (λ _ _. 8) eight_at (λ n. n < 2 ^ 64)
 number64_codec = retold _ _ _ _ (fixed_codec 8 (to_le_bytes w64) (from_le_bytes w64) (λ n. n < 2 ^ 64) (record {

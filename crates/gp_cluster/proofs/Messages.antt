@@ -3,7 +3,7 @@ use Rattle.std.proofs.Common.{◌≡◌, ℕ, ◌≤◌, true, false, not, ltb, 
 use Rattle.std.specs.Prelude.{IfOk, IfErr}
 use Rattle.std.proofs.lemmas.Bool.{not-false, ltb-false, le-ltb}
 use Rattle.gp_base.specs.Field.{IsOctets, has_bit, octet_at}
-use Rattle.gp_base.specs.Table.{answer, let_else, or_else}
+use Rattle.gp_base.specs.Table.{let_else, or_else}
 use Rattle.gp_base.proofs.Codec.{At, At-after, At-octet, split_octet}
 use Rattle.gp_base.proofs.Tables.{first_none, answer_finds, answer_refuses}
 use Rattle.gp_cluster.specs.declared.kind.Kind.{Kind}
@@ -14,7 +14,7 @@ use Rattle.gp_cluster.specs.declared.message.Cluster.TheVariants.{Notification, 
 use Rattle.gp_cluster.specs.declared.message.ClusterReason.{ClusterReason}
 use Rattle.gp_cluster.specs.declared.message.ClusterReason.TheVariants.{Short, HeaderForm, CommandUnknown, Long}
 use Rattle.gp_cluster.specs.Kind.{kind_in, kind_of, is_from_sink, command_number}
-use Rattle.gp_cluster.specs.Message.{control, body, spelling, fields_agree, HasWidths, Message, IsValid, has_header_form, header_reason, kind_at, body_reason, body_at, message_at, first_reason, reading_behind, reading}
+use Rattle.gp_cluster.specs.Message.{control, body, spelling, fields_agree, HasWidths, Message, IsValid, has_header_form, header_reason, kind_at, body_reason, body_at, message_at, first_reason, reading}
 use Rattle.gp_cluster.proofs.Headers.{SaysControl, says_control, control_again, is_kind, kind_again}
 use Rattle.gp_cluster.proofs.Notices.{notification_found, notification_again, notice_found, notice_again}
 use Rattle.gp_cluster.proofs.Pairings.{pairing_found, pairing_again}
@@ -22,6 +22,10 @@ use Rattle.gp_cluster.proofs.Modes.{mode_found, mode_again}
 use Rattle.gp_cluster.proofs.Responses.{response_found, response_again}
 
 -- ---- what is read is spelled so
+
+-- octets of a kind
+abbrev message_of : Kind → List ℕ → Zcl
+message_of k b = record { quiet = has_bit (octet_at b 0) 16; sequence = octet_at b 1; body = body_at k b }
 
 record Spells (c : Cluster) (b : List ℕ) : Type 0 where
   parts : drop 3 b ≡ body c
@@ -60,7 +64,7 @@ three_first b long =
     split_octet b 0 (omega (arith, long))
     ∙ ap (λ (l : List ℕ). octet_at b 0 ∷ l) (split_octet b 1 (omega (arith, long)) ∙ ap (λ (l : List ℕ). octet_at b 1 ∷ l) (split_octet b 2 (omega (arith, long))))
 
-spelled : (k : Kind) (b : List ℕ) → IsOctets b → IsHeader b → kind_at b ≡ Some k → Spells (body_at k b) b → b ≡ spelling (message_at k b)
+spelled : (k : Kind) (b : List ℕ) → IsOctets b → IsHeader b → kind_at b ≡ Some k → Spells (body_at k b) b → b ≡ spelling (message_of k b)
 unfolding spelling
 spelled k b bytes header is spells =
     let kind = is_kind (has_bit (octet_at b 0) 8) (octet_at b 2) k is in
@@ -73,7 +77,7 @@ spelled k b bytes header is spells =
     ∙ ap (λ (x : ℕ). control (is_from_sink (kind_in (body_at k b))) (has_bit (octet_at b 0) 16) ∷ octet_at b 1 ∷ x ∷ drop 3 b) third
     ∙ ap (λ (l : List ℕ). control (is_from_sink (kind_in (body_at k b))) (has_bit (octet_at b 0) 16) ∷ octet_at b 1 ∷ command_number (kind_in (body_at k b)) ∷ l) spells.parts
 
-found : (k : Kind) (b : List ℕ) → IsOctets b → header_reason b ≡ None → kind_at b ≡ Some k → body_reason k b ≡ None → Message (message_at k b) b
+found : (k : Kind) (b : List ℕ) → IsOctets b → header_reason b ≡ None → kind_at b ≡ Some k → body_reason k b ≡ None → Message (message_of k b) b
 found k b bytes none is fine =
     let header = is_header b none in
     let spells = body_found k b bytes fine in
@@ -119,13 +123,9 @@ heads z b e =
       behind = At-after b 2 (third ∷ []) _ at2;
     }
 
-reading_of : (k : Kind) (b : List ℕ) (z : Zcl) → header_reason b ≡ None → kind_at b ≡ Some k → body_reason k b ≡ None → message_at k b ≡ z → reading b ≡ Ok z
-unfolding reading
-reading_of k b z none is fine value =
-    ap (λ (o : Option ClusterReason). let_else o (reading_behind b) (λ reason. Err reason)) none
-    ∙ ap (λ (o : Option Kind). let_else o (Err (CommandUnknown 2)) (λ kind. answer (body_reason kind b) (message_at kind b))) is
-    ∙ ap (λ (o : Option ClusterReason). answer o (message_at k b)) fine
-    ∙ ap (λ (x : Zcl). Ok x) value
+reading_of : (k : Kind) (b : List ℕ) (z : Zcl) → header_reason b ≡ None → kind_at b ≡ Some k → body_reason k b ≡ None → message_of k b ≡ z → reading b ≡ Ok z
+unfolding reading first_reason
+reading_of k b z none is fine value = rw (none, is, fine) (ap (λ (x : Zcl). Ok x) value)
 
 pub again : (z : Zcl) (b : List ℕ) → Message z b → reading b ≡ Ok z
 again z b h =
@@ -137,45 +137,45 @@ again z b h =
     let none : header_reason b ≡ None = rw (limit, long, says.form) refl in
     let is : kind_at b ≡ Some kind = ap (λ d. kind_of d (octet_at b 2)) says.from_sink_is ∙ ap (λ (x : ℕ). kind_of (is_from_sink kind) x) head.third ∙ kind_again kind in
     let reads = body_again z.body b head.behind h.fields h.widths in
-    let value : message_at kind b ≡ z = rw (says.quiet_is, head.second, reads.value) refl in
+    let value : message_of kind b ≡ z = rw (says.quiet_is, head.second, reads.value) refl in
     reading_of kind b z none is reads.fine value
 
 -- ---- answers and reasons
 
--- a reason of the header, of the kind, or of a message of that kind; and a value without one
-abbrev first_by : Option ClusterReason → Option Kind → (Kind → Option ClusterReason) → Option ClusterReason
-first_by header kind reason = or_else header (let_else kind (Some (CommandUnknown 2)) reason)
+-- no fault of the header, a kind, and no fault of a message of that kind
+record Faultless (b : List ℕ) : Type 0 where
+  header : header_reason b ≡ None
+  kind : Kind
+  is : kind_at b ≡ Some kind
+  fine : body_reason kind b ≡ None
 
-abbrev read_by : Option ClusterReason → Option Kind → (Kind → Option ClusterReason) → (Kind → Zcl) → Result Zcl ClusterReason
-read_by header kind reason value = let_else header (let_else kind (Err (CommandUnknown 2)) (λ k. answer (reason k) (value k))) (λ r. Err r)
+faultless_by : (b : List ℕ) (h : Option ClusterReason) (k : Option Kind) → header_reason b ≡ h → kind_at b ≡ k
+    → or_else h (let_else k (Some (CommandUnknown 2)) (λ kind. body_reason kind b)) ≡ None → Faultless b
+faultless_by b (Some a) k eh ek e = absurd cc
+faultless_by b None None eh ek e = absurd cc
+faultless_by b None (Some kind) eh ek e = record { header = eh; kind = kind; is = ek; fine = e }
 
-refuses_by : (h : Option ClusterReason) (k : Option Kind) (f : Kind → Option ClusterReason) (v : Kind → Zcl) (r : Result Zcl ClusterReason) → r ≡ read_by h k f v → IfErr r (λ reason. first_by h k f ≡ Some reason)
-refuses_by (Some a) k f v r e = subst (λ (x : Result Zcl ClusterReason). IfErr x (λ reason. Some a ≡ Some reason)) (sym e) refl
-refuses_by None None f v r e = subst (λ (x : Result Zcl ClusterReason). IfErr x (λ reason. Some (CommandUnknown 2) ≡ Some reason)) (sym e) refl
-refuses_by None (Some k) f v r e = answer_refuses (f k) (v k) r e
+faultless : (b : List ℕ) → first_reason b ≡ None → Faultless b
+unfolding first_reason
+faultless b e = faultless_by b (header_reason b) (kind_at b) refl refl e
 
-reason_by : (h : Option ClusterReason) (k : Option Kind) (f : Kind → Option ClusterReason) (v : Kind → Zcl) (reason : ClusterReason) → first_by h k f ≡ Some reason → read_by h k f v ≡ Err reason
-reason_by (Some a) k f v reason e = cc
-reason_by None None f v reason e = cc
-reason_by None (Some k) f v reason e = ap (λ (o : Option ClusterReason). answer o (v k)) e
-
-finds_by : (h : Option ClusterReason) (k : Option Kind) (f : Kind → Option ClusterReason) (v : Kind → Zcl) (P : Zcl → Type 0) (r : Result Zcl ClusterReason)
-    → ((x : Kind) → h ≡ None → k ≡ Some x → f x ≡ None → P (v x)) → r ≡ read_by h k f v → IfOk r P
-finds_by (Some a) k f v P r all e = subst (λ (x : Result Zcl ClusterReason). IfOk x P) (sym e) tt
-finds_by None None f v P r all e = subst (λ (x : Result Zcl ClusterReason). IfOk x P) (sym e) tt
-finds_by None (Some k) f v P r all e = answer_finds (f k) (v k) P r (λ fine. all k refl refl fine) e
+found_at : (b : List ℕ) → IsOctets b → first_reason b ≡ None → Message (message_at b) b
+found_at b bytes e =
+    let f = faultless b e in
+    let same : message_of f.kind b ≡ message_at b = rw f.is refl in
+    subst (λ (z : Zcl). Message z b) same (found f.kind b bytes f.header f.is f.fine)
 
 pub is_found : (b : List ℕ) (r : Result Zcl ClusterReason) → IsOctets b → r ≡ reading b → IfOk r (λ z. Message z b)
 unfolding reading
-is_found b r bytes e = finds_by (header_reason b) (kind_at b) (λ k. body_reason k b) (λ k. message_at k b) (λ z. Message z b) r (λ k none is fine. found k b bytes none is fine) e
+is_found b r bytes e = answer_finds (first_reason b) (message_at b) (λ z. Message z b) r (found_at b bytes) e
 
 pub is_refused : (b : List ℕ) (r : Result Zcl ClusterReason) → r ≡ reading b → IfErr r (λ reason. first_reason b ≡ Some reason)
-unfolding reading first_reason
-is_refused b r e = refuses_by (header_reason b) (kind_at b) (λ k. body_reason k b) (λ k. message_at k b) r e
+unfolding reading
+is_refused b r e = answer_refuses (first_reason b) (message_at b) r e
 
 pub refuses : (b : List ℕ) (reason : ClusterReason) → first_reason b ≡ Some reason → reading b ≡ Err reason
-unfolding reading first_reason
-refuses b reason e = reason_by (header_reason b) (kind_at b) (λ k. body_reason k b) (λ k. message_at k b) reason e
+unfolding reading
+refuses b reason e = rw e refl
 
 -- ---- which messages have a spelling
 

@@ -7,7 +7,7 @@ use Rattle.gp_base.specs.Field.{IsOctets, agree, octet, octet_at, optional}
 use Rattle.gp_base.proofs.Codec.{At, IsField, field_from, field_agrees, anything, octet_codec, number16_codec, optional_codec, join}
 use Rattle.gp_cluster.specs.declared.message.ProxyMode.{ProxyMode}
 use Rattle.gp_cluster.specs.Options.{has_window, has_channel}
-use Rattle.gp_cluster.specs.Moded.{proxy_mode, proxy_mode_agrees, HasProxyModeWidths, channel_place, proxy_mode_end, proxy_mode_reason, proxy_mode_at}
+use Rattle.gp_cluster.specs.ProxyMode.{proxy_mode, proxy_mode_agrees, HasProxyModeWidths, channel_place, proxy_mode_end, proxy_mode_reason, proxy_mode_at}
 use Rattle.gp_cluster.proofs.Endings.{exact_end, no_fault, at_end, with_end, end_met}
 
 mode_in_order : (m : ProxyMode) (r : List ℕ) → proxy_mode m ++ r ≡ octet m.options ++ (optional (to_le_bytes w16) m.window ++ (optional octet m.channel ++ r))

@@ -9,8 +9,8 @@ use Rattle.gp_cluster.specs.declared.message.Notification.{Notification}
 use Rattle.gp_cluster.specs.declared.message.CommissioningNotice.{CommissioningNotice}
 use Rattle.gp_cluster.specs.declared.message.ClusterReason.TheVariants.{Short, AppId}
 use Rattle.gp_cluster.specs.Options.{application_id, has_proxy, notice_has_proxy, has_failed}
-use Rattle.gp_cluster.specs.Inside.{tunnel_octets, tunnel_of, notice_tunnel_of}
-use Rattle.gp_cluster.specs.Notified.{notification, notification_agrees, HasNotificationWidths, notification_end, notification_reason, notification_at, notice, notice_agrees, HasNoticeWidths, mic_place, notice_end, notice_reason, notice_at}
+use Rattle.gp_cluster.specs.Tunnel.{tunnel_octets}
+use Rattle.gp_cluster.specs.Notification.{tunnel_of, notice_tunnel_of, notification, notification_agrees, HasNotificationWidths, notification_end, notification_reason, notification_at, notice, notice_agrees, HasNoticeWidths, mic_place, notice_end, notice_reason, notice_at}
 use Rattle.gp_base.proofs.Tables.{first_none}
 use Rattle.gp_cluster.proofs.Endings.{exact_end, no_fault, at_end, with_end, end_met}
 use Rattle.gp_cluster.proofs.Tunnels.{HasTunnel, tunnel_split, tunnel_again}
@@ -18,7 +18,7 @@ use Rattle.gp_cluster.proofs.Tunnels.{HasTunnel, tunnel_split, tunnel_again}
 -- ---- Notification
 
 notification_in_order : (m : Notification) (r : List ℕ) → notification m ++ r ≡ to_le_bytes w16 m.options ++ (tunnel_octets (tunnel_of m) ++ r)
-unfolding notification tunnel_octets
+unfolding notification
 notification_in_order m r = simp append_assoc
 
 pub notification_found : (b : List ℕ) → IsOctets b → notification_reason b ≡ None
@@ -57,7 +57,7 @@ notification_again b m at agrees widths =
 -- ---- Commissioning Notification
 
 notice_in_order : (m : CommissioningNotice) (r : List ℕ) → notice m ++ r ≡ to_le_bytes w16 m.options ++ (tunnel_octets (notice_tunnel_of m) ++ (optional (λ mic. mic) m.mic ++ r))
-unfolding notice tunnel_octets
+unfolding notice
 notice_in_order m r = simp append_assoc
 
 pub notice_found : (b : List ℕ) → IsOctets b → notice_reason b ≡ None

@@ -7,12 +7,12 @@ use Rattle.gp_base.specs.Field.{IsOctets, agree, octet, four_at, optional, key_o
 use Rattle.gp_base.proofs.Codec.{At, IsField, field_from, field_agrees, anything, src_codec, octet_codec, number16_codec, number32_codec, key_codec, optional_codec, join}
 use Rattle.gp_cluster.specs.declared.message.Pairing.{Pairing}
 use Rattle.gp_cluster.specs.declared.message.ClusterReason.TheVariants.{Short, AppId, Mode}
-use Rattle.gp_cluster.specs.declared.pairing.Route.{Route}
-use Rattle.gp_cluster.specs.declared.pairing.Extras.{Extras}
+use Rattle.gp_cluster.specs.Pairing.{Route}
+use Rattle.gp_cluster.specs.Pairing.{Extras}
 use Rattle.gp_cluster.specs.Fields.{three_octets, three_at, sink_octets}
 use Rattle.gp_cluster.specs.Options.{application_id, adds_sink, lacks_mode, has_sink, has_group, has_counter, has_key, has_alias, has_radius}
 use Rattle.gp_cluster.specs.Inside.{route_octets, extras_octets, route_of, extras_of}
-use Rattle.gp_cluster.specs.Paired.{pairing, route_agrees, extras_agree, pairing_agrees, HasPairingWidths, group_place, device_place, route_end, route_at, key_place, alias_place, radius_place, extras_end, extras_at, pairing_end, pairing_reason, pairing_at}
+use Rattle.gp_cluster.specs.Pairing.{pairing, route_agrees, extras_agree, pairing_agrees, HasPairingWidths, group_place, device_place, route_end, route_at, key_place, alias_place, radius_place, extras_end, extras_at, pairing_end, pairing_reason, pairing_at}
 use Rattle.gp_base.proofs.Tables.{first_none}
 use Rattle.gp_cluster.proofs.Endings.{exact_end, no_fault, at_end, with_end, end_met}
 use Rattle.gp_cluster.proofs.FieldCodecs.{number24_codec, sink_codec}

@@ -8,7 +8,7 @@ use Rattle.gp_cluster.specs.declared.message.Response.{Response}
 use Rattle.gp_cluster.specs.declared.message.ClusterReason.TheVariants.{Short, AppId}
 use Rattle.gp_cluster.specs.Options.{application_id}
 use Rattle.gp_cluster.specs.Fields.{octet_string}
-use Rattle.gp_cluster.specs.Responded.{response, response_agrees, HasResponseWidths, response_end, response_reason, response_at}
+use Rattle.gp_cluster.specs.Response.{response, response_agrees, HasResponseWidths, response_end, response_reason, response_at}
 use Rattle.gp_base.proofs.Tables.{first_none}
 use Rattle.gp_cluster.proofs.Endings.{exact_end, no_fault, at_end, with_end, end_met}
 use Rattle.gp_cluster.proofs.FieldCodecs.{string_codec}

@@ -3,10 +3,9 @@ use Rattle.std.proofs.Common.{◌≡◌, ℕ, ◌^◌, ◌<◌, ◌≤◌, Bool,
 use Rattle.std.specs.Int.{w32, to_le_bytes}
 use Rattle.gp_base.specs.Field.{IsOctets, octet, octet_at, four_at, optional}
 use Rattle.gp_base.proofs.Codec.{At, IsField, octet_codec, number32_codec, src_codec, optional_codec, join}
-use Rattle.gp_cluster.specs.declared.tunnel.Tunnel.{Tunnel}
+use Rattle.gp_cluster.specs.Tunnel.{Tunnel}
 use Rattle.gp_cluster.specs.Fields.{octet_string, IsString, string_at, proxy_octets}
-use Rattle.gp_cluster.specs.Inside.{tunnel_octets}
-use Rattle.gp_cluster.specs.Tunnel.{proxy_place, tunnel_end, tunnel_at}
+use Rattle.gp_cluster.specs.Tunnel.{tunnel_octets, proxy_place, tunnel_end, tunnel_at}
 use Rattle.gp_cluster.proofs.FieldCodecs.{string_codec, proxy_codec}
 
 pub record HasTunnel (with_proxy : Bool) (t : Tunnel) : Type 0 where

@@ -1,8 +1,7 @@
 -- Fields of the messages, spelled out and at their places. Numbers stand least significant octet first.
 use Rattle.std.specs.Prelude.{ℕ, ◌+◌, ◌<◌, ◌==◌, Bool, not, List, [], ◌∷◌, ◌++◌, length, take, slice_index, Option, Some, None, IfSome}
 use Rattle.std.specs.Int.{w16, w32, w64, from_le_bytes, to_le_bytes}
-use Rattle.gp_base.specs.declared.identity.Src.{Src}
-use Rattle.gp_base.specs.Field.{octet, octet_at, two_at, four_at, part, counted, size_if, value_if}
+use Rattle.gp_base.specs.Field.{octet, octet_at, two_at, eight_at, part, counted, size_if, value_if}
 
 -- a number in three octets, and the number in the three octets from a place on
 abbrev pub three_octets : ℕ → List ℕ
@@ -10,24 +9,6 @@ three_octets number = take 3 (to_le_bytes w32 number)
 
 abbrev pub three_at : List ℕ → ℕ → ℕ
 three_at octets at = from_le_bytes w32 (slice_index octets at ∷ slice_index octets (at + 1) ∷ slice_index octets (at + 2) ∷ 0 ∷ [])
-
--- the number in the eight octets from a place on
-abbrev pub eight_at : List ℕ → ℕ → ℕ
-eight_at octets at =
-    from_le_bytes w64
-    (slice_index octets at
-    ∷ slice_index octets (at + 1)
-    ∷ slice_index octets (at + 2)
-    ∷ slice_index octets (at + 3)
-    ∷ slice_index octets (at + 4)
-    ∷ slice_index octets (at + 5)
-    ∷ slice_index octets (at + 6)
-    ∷ slice_index octets (at + 7)
-    ∷ [])
-
--- the SrcID in the four octets from a place on
-abbrev pub src_at : List ℕ → ℕ → Src
-src_at octets at = record { 0 = four_at octets at }
 
 -- An octet string: its length and so many octets, fewer than 255; or FF, which says that it is unspecified
 -- (Zigbee Cluster Library, 2.6.2, octet string).

@@ -1,47 +1,21 @@
--- What private functions say: steps of a walk, and octets in the parts that the code adds. No public clause cites
--- this file.
-use Rattle.std.specs.Prelude.{◌≡◌, ℕ, ◌<◌, ◌≤◌, ◌^◌, List, ◌++◌, length, Option, IfSome}
-use Rattle.std.specs.Option.{MatchOption}
+-- What private functions say: octets in the parts that the code adds. No public clause cites this file, and nobody has
+-- to believe it.
+use Rattle.std.specs.Prelude.{◌≡◌, ℕ, ◌<◌, ◌^◌, List, ◌++◌, length, IfSome}
 use Rattle.std.specs.Int.{w16, w32, to_le_bytes}
 use Rattle.gp_base.specs.Field.{octet, optional, key_octets}
-use Rattle.gp_base.specs.Walk.{Walk}
-use Rattle.gp_cluster.specs.declared.message.Notification.{Notification}
-use Rattle.gp_cluster.specs.declared.message.CommissioningNotice.{CommissioningNotice}
 use Rattle.gp_cluster.specs.declared.message.Pairing.{Pairing}
-use Rattle.gp_cluster.specs.declared.tunnel.Tunnel.{Tunnel}
-use Rattle.gp_cluster.specs.declared.pairing.Route.{Route}
-use Rattle.gp_cluster.specs.declared.pairing.Extras.{Extras}
-use Rattle.gp_cluster.specs.Fields.{octet_string, IsString, proxy_octets, sink_octets, three_octets}
-
--- What stands up to this place was taken; or an octet of it is missing.
-abbrev pub TakesTo : {X : Type 0} → ℕ → X → Walk → Walk → Option X → Type 0
-TakesTo end part old new taken =
-    MatchOption taken (length old.octets < end)
-    (λ x. (x ≡ part) × (new.octets ≡ old.octets) × (new.place ≡ end) × (end ≤ length old.octets))
+use Rattle.gp_cluster.specs.Tunnel.{Tunnel}
+use Rattle.gp_cluster.specs.Pairing.{Route}
+use Rattle.gp_cluster.specs.Pairing.{Extras}
+use Rattle.gp_cluster.specs.Fields.{IsString, sink_octets, three_octets}
 
 -- ---- a tunnel
-
-unfoldable pub tunnel_octets : Tunnel → List ℕ
-tunnel_octets t =
-    to_le_bytes w32 t.src.0 ++ (to_le_bytes w32 t.counter ++ (octet t.command ++ (octet_string t.payload ++ optional proxy_octets t.proxy)))
 
 pub record HasTunnelWidths (t : Tunnel) : Type 0 where
   pub src : t.src.0 < 2 ^ 32
   pub counter : t.counter < 2 ^ 32
   pub payload : IsString t.payload
   pub proxy : IfSome t.proxy (λ proxy. proxy.0 < 2 ^ 16)
-
-abbrev pub tunnel_of : Notification → Tunnel
-tunnel_of m = record { src = m.src; counter = m.counter; command = m.command; payload = m.payload; proxy = m.proxy }
-
-abbrev pub notice_tunnel_of : CommissioningNotice → Tunnel
-notice_tunnel_of m = record { src = m.src; counter = m.counter; command = m.command; payload = m.payload; proxy = m.proxy }
-
-abbrev pub notification_in_parts : Notification → List ℕ
-notification_in_parts m = to_le_bytes w16 m.options ++ tunnel_octets (tunnel_of m)
-
-abbrev pub notice_in_parts : CommissioningNotice → List ℕ
-notice_in_parts m = to_le_bytes w16 m.options ++ (tunnel_octets (notice_tunnel_of m) ++ optional (λ mic. mic) m.mic)
 
 -- ---- a Pairing
 

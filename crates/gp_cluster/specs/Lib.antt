@@ -1,10 +1,11 @@
+pub mod Ending
 pub mod Fields
 pub mod Inside
 pub mod Kind
 pub mod Message
-pub mod Moded
-pub mod Notified
+pub mod ProxyMode
+pub mod Notification
 pub mod Options
-pub mod Paired
-pub mod Responded
+pub mod Pairing
+pub mod Response
 pub mod Tunnel

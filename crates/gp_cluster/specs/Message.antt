@@ -1,6 +1,6 @@
 -- A message of the Green Power cluster and its octets: a header (Zigbee Cluster Library, 2.4.1) and the fields that
 -- are there in order (Zigbee PRO Green Power, A.3.3.4 and A.3.3.5).
-use Rattle.std.specs.Prelude.{◌≡◌, ℕ, ◌+◌, ◌*◌, ◌/◌, ◌%◌, ◌≤◌, ◌==◌, nat_lt, Bool, not, ◌&&◌, List, [], ◌∷◌, length, Option, Some, Result, Err, IsTrue}
+use Rattle.std.specs.Prelude.{◌≡◌, ℕ, ◌+◌, ◌*◌, ◌/◌, ◌%◌, ◌≤◌, ◌==◌, nat_lt, Bool, not, ◌&&◌, List, [], ◌∷◌, length, Option, Some, Result, IsTrue, unwrap_or}
 use Rattle.gp_base.specs.Field.{IsOctets, flag, has_bit, joined, octet, octet_at}
 use Rattle.gp_base.specs.Table.{answer, first_of, let_else, or_else}
 use Rattle.gp_cluster.specs.declared.kind.Kind.{Kind}
@@ -11,10 +11,10 @@ use Rattle.gp_cluster.specs.declared.message.Cluster.TheVariants.{Notification, 
 use Rattle.gp_cluster.specs.declared.message.ClusterReason.{ClusterReason}
 use Rattle.gp_cluster.specs.declared.message.ClusterReason.TheVariants.{Short, HeaderForm, CommandUnknown, Long}
 use Rattle.gp_cluster.specs.Kind.{kind_of, kind_in, is_from_sink, command_number}
-use Rattle.gp_cluster.specs.Notified.{notification, notification_agrees, HasNotificationWidths, notification_reason, notification_at, notice, notice_agrees, HasNoticeWidths, notice_reason, notice_at}
-use Rattle.gp_cluster.specs.Paired.{pairing, pairing_agrees, HasPairingWidths, pairing_reason, pairing_at}
-use Rattle.gp_cluster.specs.Moded.{proxy_mode, proxy_mode_agrees, HasProxyModeWidths, proxy_mode_reason, proxy_mode_at}
-use Rattle.gp_cluster.specs.Responded.{response, response_agrees, HasResponseWidths, response_reason, response_at}
+use Rattle.gp_cluster.specs.Notification.{notification, notification_agrees, HasNotificationWidths, notification_reason, notification_at, notice, notice_agrees, HasNoticeWidths, notice_reason, notice_at}
+use Rattle.gp_cluster.specs.Pairing.{pairing, pairing_agrees, HasPairingWidths, pairing_reason, pairing_at}
+use Rattle.gp_cluster.specs.ProxyMode.{proxy_mode, proxy_mode_agrees, HasProxyModeWidths, proxy_mode_reason, proxy_mode_at}
+use Rattle.gp_cluster.specs.Response.{response, response_agrees, HasResponseWidths, response_reason, response_at}
 
 -- ---- what a message is
 
@@ -104,20 +104,22 @@ body_at kinds.Pairing octets = Pairing (pairing_at octets)
 body_at kinds.ProxyMode octets = ProxyMode (proxy_mode_at octets)
 body_at kinds.Response octets = Response (response_at octets)
 
-abbrev pub message_at : Kind → List ℕ → Zcl
-message_at kind octets = record { quiet = has_bit (octet_at octets 0) 16; sequence = octet_at octets 1; body = body_at kind octets }
+-- what octets read as whose direction and number are those of a message; for others any kind will do
+abbrev pub message_at : List ℕ → Zcl
+message_at octets = record {
+  quiet = has_bit (octet_at octets 0) 16;
+  sequence = octet_at octets 1;
+  body = body_at (unwrap_or (kind_at octets) kinds.Notification) octets;
+}
+
+-- the first fault behind the header
+abbrev pub reason_behind : List ℕ → Option ClusterReason
+reason_behind octets = let_else (kind_at octets) (Some (CommandUnknown 2)) (λ kind. body_reason kind octets)
 
 -- the first fault from the left
 unfoldable pub first_reason : List ℕ → Option ClusterReason
-first_reason octets =
-    or_else (header_reason octets)
-    (let_else (kind_at octets) (Some (CommandUnknown 2)) (λ kind. body_reason kind octets))
-
--- what octets read as behind a header without fault
-abbrev pub reading_behind : List ℕ → Result Zcl ClusterReason
-reading_behind octets =
-    let_else (kind_at octets) (Err (CommandUnknown 2)) (λ kind. answer (body_reason kind octets) (message_at kind octets))
+first_reason octets = or_else (header_reason octets) (reason_behind octets)
 
 -- what octets read as
 unfoldable pub reading : List ℕ → Result Zcl ClusterReason
-reading octets = let_else (header_reason octets) (reading_behind octets) (λ reason. Err reason)
+reading octets = answer (first_reason octets) (message_at octets)

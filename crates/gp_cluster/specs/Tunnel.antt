@@ -1,9 +1,29 @@
 -- What Notification and Commissioning Notification have in common: the tunnelled frame, and who tunnels it
 -- (Zigbee PRO Green Power, A.3.3.4).
-use Rattle.std.specs.Prelude.{ℕ, ◌+◌, Bool, List}
-use Rattle.gp_base.specs.Field.{octet_at, four_at, size_if, value_if}
-use Rattle.gp_cluster.specs.declared.tunnel.Tunnel.{Tunnel}
-use Rattle.gp_cluster.specs.Fields.{src_at, string_size, string_at, proxy_at}
+use Rattle.std.specs.Prelude.{ℕ, ◌+◌, Bool, List, [], ◌∷◌, Option}
+use Rattle.std.specs.Int.{w32, to_le_bytes}
+use Rattle.gp_base.specs.declared.identity.Src.{Src}
+use Rattle.gp_base.specs.Field.{joined, octet, octet_at, four_at, optional, size_if, value_if, src_octets, src_at}
+use Rattle.gp_cluster.specs.Fields.{octet_string, string_size, string_at, proxy_octets, proxy_at}
+
+-- a frame of a device, and the proxy that tunnels it
+pub record Tunnel : Type 0 where
+  pub src : Src
+  pub counter : ℕ
+  pub command : ℕ
+  pub payload : Option (List ℕ)
+  pub proxy : Option (ℕ × ℕ)
+
+-- its octets
+unfoldable pub tunnel_octets : Tunnel → List ℕ
+tunnel_octets t =
+    joined
+    (src_octets t.src
+    ∷ to_le_bytes w32 t.counter
+    ∷ octet t.command
+    ∷ octet_string t.payload
+    ∷ optional proxy_octets t.proxy
+    ∷ [])
 
 -- where proxy info would stand
 abbrev pub proxy_place : List ℕ → ℕ

@@ -1,79 +1,65 @@
 //! The fields that the cluster's messages have beside those of other formats: each is taken from a reader, and added
-//! to octets that are being spelled. `None` says that an octet is missing, or that there is no room.
+//! to octets that are being spelled. `Short` says that an octet is missing, and `NoRoom` that there is no room.
 
-ghost use Rattle.std.specs.Prelude.{◌≡◌, ◌<◌, ◌≤◌, ◌^◌, length, IfSome, OnSome, if◌then◌else◌, nat_lt, Some, None};
-ghost use Rattle.std.specs.Int.{w32, to_le_bytes};
+ghost use Rattle.std.specs.Prelude.{◌≡◌, ◌<◌, ◌≤◌, ◌^◌, length, IfSome, OnOk, if◌then◌else◌, nat_lt, Some, None};
 ghost use Rattle.gp_base.specs.Field.{optional, size_if, value_if, Adds};
 ghost use Rattle.gp_base.specs.Walk.{Takes, IsWithin};
 ghost use Rattle.gp_cluster.specs.declared.message.ClusterReason.{ClusterReason};
-ghost use Rattle.gp_cluster.specs.Fields.{three_octets, three_at, eight_at, octet_string, IsString, src_at, string_size, string_at, proxy_octets, proxy_at, sink_octets, sink_at};
+ghost use Rattle.gp_cluster.specs.Fields.{three_octets, three_at, octet_string, IsString, string_size, string_at, proxy_octets, proxy_at, sink_octets, sink_at};
 
 use crate::message::ClusterReason;
-use gp_base::field::{add, add_number16, add_octet, number16, number32, octet, octets};
-use gp_base::{Octets, Reader, Src};
+use gp_base::field::{
+    NoRoom, Short, add, add_counted, add_number16, add_number64, add_octet, number16, number64,
+    octet, octets,
+};
+use gp_base::{Octets, Reader};
 
 /// The next three octets as a number, the least significant first.
-pub(crate) fn number24(reader: &mut Reader) -> Option<u32>
+pub(crate) fn number24(reader: &mut Reader) -> Result<u32, Short>
     ensures { Takes 3 (three_at reader.old.octets reader.old.place) reader.old reader.new result }
 {
-    let taken = reader.take(3)?;
-    Some(u32::from_le_bytes([taken[0], taken[1], taken[2], 0]))
-}
-
-/// The next eight octets as a number, the least significant first.
-pub(crate) fn number64(reader: &mut Reader) -> Option<u64>
-    ensures { Takes 8 (eight_at reader.old.octets reader.old.place) reader.old reader.new result }
-{
-    let taken = reader.take(8)?;
-    Some(u64::from_le_bytes([
-        taken[0], taken[1], taken[2], taken[3], taken[4], taken[5], taken[6], taken[7],
-    ]))
-}
-
-/// The next four octets as a SrcID.
-pub(crate) fn src(reader: &mut Reader) -> Option<Src>
-    ensures { Takes 4 (src_at reader.old.octets reader.old.place) reader.old reader.new result }
-{
-    let number = number32(reader)?;
-    Some(Src(number))
+    let Some(taken) = reader.take(3) else {
+        return Err(Short);
+    };
+    Ok(u32::from_le_bytes([taken[0], taken[1], taken[2], 0]))
 }
 
 /// An octet string: its length, and so many octets; FF says that it is unspecified.
-pub(crate) fn string(reader: &mut Reader) -> Option<Option<Octets>>
+pub(crate) fn string(reader: &mut Reader) -> Result<Option<Octets>, Short>
     requires { length reader.old.octets ≤ 127 }
     ensures { Takes (string_size reader.old.octets reader.old.place) (string_at reader.old.octets reader.old.place) reader.old reader.new result }
 {
     let count = octet(reader)?;
     if count == 0xFF {
-        return Some(None);
+        return Ok(None);
     }
-    Some(Some(octets(reader, count as usize)?))
+    Ok(Some(octets(reader, count as usize)?))
 }
 
 /// Proxy info that is there or not: the proxy's address, and the link.
-pub(crate) fn proxy_if(reader: &mut Reader, there: bool) -> Option<Option<(u16, u8)>>
+pub(crate) fn proxy_if(reader: &mut Reader, there: bool) -> Result<Option<(u16, u8)>, Short>
     requires { IsWithin reader.old }
     ensures { Takes (size_if there 3) (value_if there (proxy_at reader.old.octets reader.old.place)) reader.old reader.new result }
 {
     if !there {
-        return Some(None);
+        return Ok(None);
     }
     let address = number16(reader)?;
     let link = octet(reader)?;
-    Some(Some((address, link)))
+    Ok(Some((address, link)))
 }
 
 /// A sink that is there or not: its IEEE address, and its network address.
-pub(crate) fn sink_if(reader: &mut Reader, there: bool) -> Option<Option<(u64, u16)>>
+pub(crate) fn sink_if(reader: &mut Reader, there: bool) -> Result<Option<(u64, u16)>, Short>
     requires { IsWithin reader.old }
     ensures { Takes (size_if there 10) (value_if there (sink_at reader.old.octets reader.old.place)) reader.old reader.new result }
 {
     if !there {
-        return Some(None);
+        return Ok(None);
     }
     let ieee = number64(reader)?;
     let address = number16(reader)?;
-    Some(Some((ieee, address)))
+    Ok(Some((ieee, address)))
 }
 
 /// The fault of octets that go on after the last field.
@@ -90,45 +76,26 @@ pub(crate) fn surplus(octets: &[u8], reader: &Reader) -> Option<ClusterReason>
 }
 
 /// Adds a number as three octets, the least significant first.
-pub(crate) fn add_number24(out: &mut Octets, number: u32) -> Option<()>
+pub(crate) fn add_number24(out: &mut Octets, number: u32) -> Result<(), NoRoom>
     ensures { Adds (three_octets number) out.old out.new result }
 {
     let octets = number.to_le_bytes();
     add(out, &octets[..3])
 }
 
-/// Adds a SrcID as four octets, the least significant first.
-pub(crate) fn add_src(out: &mut Octets, src: Src) -> Option<()>
-    ensures added { Adds (to_le_bytes w32 src.0) out.old out.new result }
-    ensures width { src.0 < 2 ^ 32 }
-{
-    add_number32(out, src.0)
-}
-
-/// Adds a number as four octets, the least significant first.
-pub(crate) fn add_number32(out: &mut Octets, number: u32) -> Option<()>
-    ensures { Adds (to_le_bytes w32 number) out.old out.new result }
-{
-    add(out, &number.to_le_bytes())
-}
-
 /// Adds an octet string.
-pub(crate) fn add_string(out: &mut Octets, string: &Option<Octets>) -> Option<()>
+pub(crate) fn add_string(out: &mut Octets, string: &Option<Octets>) -> Result<(), NoRoom>
     ensures added { Adds (octet_string string.now) out.old out.new result }
-    ensures width { OnSome result (IsString string.now) }
+    ensures width { OnOk result (IsString string.now) }
 {
     match string {
-        Some(octets) => {
-            let octets = octets.as_slice();
-            add_octet(out, octets.len() as u8)?;
-            add(out, octets)
-        }
+        Some(octets) => add_counted(out, octets),
         None => add_octet(out, 0xFF),
     }
 }
 
 /// Adds proxy info that is there or not.
-pub(crate) fn add_proxy_if(out: &mut Octets, proxy: Option<(u16, u8)>) -> Option<()>
+pub(crate) fn add_proxy_if(out: &mut Octets, proxy: Option<(u16, u8)>) -> Result<(), NoRoom>
     ensures added { Adds (optional proxy_octets proxy) out.old out.new result }
     ensures width { IfSome proxy (λ p. p.0 < 2 ^ 16) }
 {
@@ -137,20 +104,20 @@ pub(crate) fn add_proxy_if(out: &mut Octets, proxy: Option<(u16, u8)>) -> Option
             add_number16(out, address)?;
             add_octet(out, link)
         }
-        None => Some(()),
+        None => Ok(()),
     }
 }
 
 /// Adds a sink that is there or not.
-pub(crate) fn add_sink_if(out: &mut Octets, sink: Option<(u64, u16)>) -> Option<()>
+pub(crate) fn add_sink_if(out: &mut Octets, sink: Option<(u64, u16)>) -> Result<(), NoRoom>
     ensures added { Adds (optional sink_octets sink) out.old out.new result }
     ensures width { IfSome sink (λ s. (s.0 < 2 ^ 64) × (s.1 < 2 ^ 16)) }
 {
     match sink {
         Some((ieee, address)) => {
-            add(out, &ieee.to_le_bytes())?;
+            add_number64(out, ieee)?;
             add_number16(out, address)
         }
-        None => Some(()),
+        None => Ok(()),
     }
 }

@@ -27,6 +27,3 @@ pub use message::{
 };
 pub use reading::decode;
 pub use writing::{encode, valid};
-
-#[cfg(test)]
-mod tests;

@@ -1,17 +1,16 @@
 //! Notification and Commissioning Notification.
 
-ghost use Rattle.std.specs.Prelude.{◌≡◌, ◌≤◌, length, OnSome};
+ghost use Rattle.std.specs.Prelude.{◌≡◌, ◌≤◌, length, OnOk};
 ghost use Rattle.gp_base.specs.Field.{Adds};
 ghost use Rattle.gp_base.specs.Table.{answer};
-ghost use Rattle.gp_cluster.specs.Inside.{notification_in_parts, notice_in_parts};
-ghost use Rattle.gp_cluster.specs.Notified as words;
-ghost use Rattle.gp_cluster.specs.Notified.{notification_reason, notification_at, HasNotificationWidths, notice_reason, notice_at, HasNoticeWidths};
+ghost use Rattle.gp_cluster.specs.Notification as words;
+ghost use Rattle.gp_cluster.specs.Notification.{notification_reason, notification_at, HasNotificationWidths, notice_reason, notice_at, HasNoticeWidths};
 
 use crate::field::surplus;
 use crate::message::{ClusterReason, CommissioningNotice, Notification, short};
 use crate::options::{NoticeOptions, NotificationOptions, application_id};
 use crate::tunnel::{add_tunnel, take_tunnel};
-use gp_base::field::{add_mic_if, add_number16, mic_if, number16};
+use gp_base::field::{NoRoom, add_mic_if, add_number16, mic_if, number16};
 use gp_base::{Octets, Reader};
 
 /// Reads a Notification after its header.
@@ -24,13 +23,13 @@ pub(crate) fn read_notification(
     requires room { length octets.now ≤ 127 }
     ensures { result ≡ answer (notification_reason octets.now) (notification_at octets.now) }
 {
-    let Some(options) = number16(reader) else {
+    let Ok(options) = number16(reader) else {
         return Err(short(octets));
     };
     if application_id(options as u32) != 0 {
         return Err(ClusterReason::AppId { place: 3 });
     }
-    let Some(tunnel) = take_tunnel(reader, NotificationOptions(options).has_proxy()) else {
+    let Ok(tunnel) = take_tunnel(reader, NotificationOptions(options).has_proxy()) else {
         return Err(short(octets));
     };
     if let Some(reason) = surplus(octets, reader) {
@@ -56,16 +55,16 @@ pub(crate) fn read_notice(
     requires room { length octets.now ≤ 127 }
     ensures { result ≡ answer (notice_reason octets.now) (notice_at octets.now) }
 {
-    let Some(options) = number16(reader) else {
+    let Ok(options) = number16(reader) else {
         return Err(short(octets));
     };
     if application_id(options as u32) != 0 {
         return Err(ClusterReason::AppId { place: 3 });
     }
-    let Some(tunnel) = take_tunnel(reader, NoticeOptions(options).has_proxy()) else {
+    let Ok(tunnel) = take_tunnel(reader, NoticeOptions(options).has_proxy()) else {
         return Err(short(octets));
     };
-    let Some(mic) = mic_if(reader, NoticeOptions(options).has_failed()) else {
+    let Ok(mic) = mic_if(reader, NoticeOptions(options).has_failed()) else {
         return Err(short(octets));
     };
     if let Some(reason) = surplus(octets, reader) {
@@ -100,17 +99,10 @@ pub(crate) fn notice_agrees(message: &CommissioningNotice) -> bool
 }
 
 /// Adds a Notification without its header.
-pub(crate) fn add_notification(out: &mut Octets, message: &Notification) -> Option<()>
+#[tactic(auto, unfolding(crate::specs::Notification::notification))]
+pub(crate) fn add_notification(out: &mut Octets, message: &Notification) -> Result<(), NoRoom>
     ensures added { Adds (words.notification message.now) out.old out.new result }
-    ensures widths { OnSome result (HasNotificationWidths message.now) }
-{
-    add_notification_parts(out, message)
-}
-
-/// Adds its parts.
-fn add_notification_parts(out: &mut Octets, message: &Notification) -> Option<()>
-    ensures added { Adds (notification_in_parts message.now) out.old out.new result }
-    ensures widths { OnSome result (HasNotificationWidths message.now) }
+    ensures widths { OnOk result (HasNotificationWidths message.now) }
 {
     add_number16(out, message.options)?;
     add_tunnel(
@@ -124,17 +116,10 @@ fn add_notification_parts(out: &mut Octets, message: &Notification) -> Option<()
 }
 
 /// Adds a Commissioning Notification without its header.
-pub(crate) fn add_notice(out: &mut Octets, message: &CommissioningNotice) -> Option<()>
+#[tactic(auto, unfolding(crate::specs::Notification::notice))]
+pub(crate) fn add_notice(out: &mut Octets, message: &CommissioningNotice) -> Result<(), NoRoom>
     ensures added { Adds (words.notice message.now) out.old out.new result }
-    ensures widths { OnSome result (HasNoticeWidths message.now) }
-{
-    add_notice_parts(out, message)
-}
-
-/// Adds its parts.
-fn add_notice_parts(out: &mut Octets, message: &CommissioningNotice) -> Option<()>
-    ensures added { Adds (notice_in_parts message.now) out.old out.new result }
-    ensures widths { OnSome result (HasNoticeWidths message.now) }
+    ensures widths { OnOk result (HasNoticeWidths message.now) }
 {
     add_number16(out, message.options)?;
     add_tunnel(

@@ -1,24 +1,25 @@
 //! Pairing.
 
-ghost use Rattle.std.specs.Prelude.{◌≡◌, ◌≤◌, length, OnSome};
+ghost use Rattle.std.specs.Prelude.{◌≡◌, ◌≤◌, length, OnOk};
 ghost use Rattle.gp_base.specs.Field.{Adds};
 ghost use Rattle.gp_base.specs.Table.{answer};
-ghost use Rattle.gp_base.specs.Walk.{IsWithin};
-ghost use Rattle.gp_cluster.specs.Inside.{TakesTo, route_octets, HasRouteWidths, extras_octets, HasExtrasWidths, pairing_in_parts};
-ghost use Rattle.gp_cluster.specs.Paired as words;
-ghost use Rattle.gp_cluster.specs.Paired.{route_end, route_at, extras_end, extras_at, pairing_reason, pairing_at, HasPairingWidths};
+ghost use Rattle.gp_base.specs.Walk.{IsWithin, TakesTo};
+ghost use Rattle.gp_cluster.specs.Inside.{route_octets, HasRouteWidths, extras_octets, HasExtrasWidths, pairing_in_parts};
+ghost use Rattle.gp_cluster.specs.Pairing as words;
+ghost use Rattle.gp_cluster.specs.Pairing.{route_end, route_at, extras_end, extras_at, pairing_reason, pairing_at, HasPairingWidths};
 
-use crate::field::{add_number24, add_sink_if, add_src, number24, sink_if, src, surplus};
+use crate::field::{add_number24, add_sink_if, number24, sink_if, surplus};
 use crate::message::{ClusterReason, Pairing, short};
 use crate::options::{PairingOptions, application_id};
 use gp_base::field::{
-    add_key_if, add_number16_if, add_number32_if, add_octet_if, key_if, number16_if, number32_if,
-    octet_if,
+    NoRoom, Short, add_key_if, add_number16_if, add_number32_if, add_octet_if, add_src, key_if,
+    number16_if, number32_if, octet_if, src,
 };
 use gp_base::{Key, Octets, Reader, Src};
+use std::marker::Model;
 
 /// The device, and where its frames are to go.
-#[derive(Clone, Copy, Debug)]
+#[derive(Debug, Drop)]
 pub(crate) struct Route {
     pub src: Src,
     pub sink: Option<(u64, u16)>,
@@ -26,8 +27,16 @@ pub(crate) struct Route {
     pub device: Option<u8>,
 }
 
+impl Model for Route {
+    ghost use Rattle.gp_cluster.specs.Pairing.{Route as Told};
+
+    ghost Value = { Told };
+
+    ghost view = { λ r. record { src = r.src; sink = r.sink; group = r.group; device = r.device } };
+}
+
 /// What a Pairing may tell besides.
-#[derive(Clone, Copy, Debug)]
+#[derive(Debug, Drop)]
 pub(crate) struct Extras {
     pub counter: Option<u32>,
     pub key: Option<Key>,
@@ -35,9 +44,17 @@ pub(crate) struct Extras {
     pub radius: Option<u8>,
 }
 
+impl Model for Extras {
+    ghost use Rattle.gp_cluster.specs.Pairing.{Extras as Told};
+
+    ghost Value = { Told };
+
+    ghost view = { λ e. record { counter = e.counter; key = e.key; alias = e.alias; radius = e.radius } };
+}
+
 /// Takes the device, and where its frames are to go.
-#[tactic(auto, unfolding(crate::specs::Paired::route_end, crate::specs::Paired::route_at))]
-fn take_route(reader: &mut Reader, options: PairingOptions) -> Option<Route>
+#[tactic(auto, unfolding(crate::specs::Pairing::route_end, crate::specs::Pairing::route_at))]
+fn take_route(reader: &mut Reader, options: PairingOptions) -> Result<Route, Short>
     requires { reader.old.place ≡ 6 }
     ensures { TakesTo (route_end options.0) (route_at options.0 reader.old.octets) reader.old reader.new result }
 {
@@ -45,7 +62,7 @@ fn take_route(reader: &mut Reader, options: PairingOptions) -> Option<Route>
     let sink = sink_if(reader, options.has_sink())?;
     let group = number16_if(reader, options.has_group())?;
     let device = octet_if(reader, options.adds_sink())?;
-    Some(Route {
+    Ok(Route {
         src,
         sink,
         group,
@@ -54,8 +71,8 @@ fn take_route(reader: &mut Reader, options: PairingOptions) -> Option<Route>
 }
 
 /// Takes counter, key, alias and radius.
-#[tactic(auto, unfolding(crate::specs::Paired::extras_end, crate::specs::Paired::extras_at))]
-fn take_extras(reader: &mut Reader, options: PairingOptions) -> Option<Extras>
+#[tactic(auto, unfolding(crate::specs::Pairing::extras_end, crate::specs::Pairing::extras_at))]
+fn take_extras(reader: &mut Reader, options: PairingOptions) -> Result<Extras, Short>
     requires { IsWithin reader.old }
     ensures { TakesTo (extras_end options.0 reader.old.place)
         (extras_at options.0 reader.old.octets reader.old.place) reader.old reader.new result }
@@ -64,7 +81,7 @@ fn take_extras(reader: &mut Reader, options: PairingOptions) -> Option<Extras>
     let key = key_if(reader, options.has_key())?;
     let alias = number16_if(reader, options.has_alias())?;
     let radius = octet_if(reader, options.has_radius())?;
-    Some(Extras {
+    Ok(Extras {
         counter,
         key,
         alias,
@@ -93,16 +110,16 @@ pub(crate) fn read_pairing(octets: &[u8], reader: &mut Reader) -> Result<Pairing
     requires room { length octets.now ≤ 127 }
     ensures { result ≡ answer (pairing_reason octets.now) (pairing_at octets.now) }
 {
-    let Some(options) = number24(reader) else {
+    let Ok(options) = number24(reader) else {
         return Err(short(octets));
     };
     if let Some(reason) = options_reason(PairingOptions(options)) {
         return Err(reason);
     }
-    let Some(route) = take_route(reader, PairingOptions(options)) else {
+    let Ok(route) = take_route(reader, PairingOptions(options)) else {
         return Err(short(octets));
     };
-    let Some(extras) = take_extras(reader, PairingOptions(options)) else {
+    let Ok(extras) = take_extras(reader, PairingOptions(options)) else {
         return Err(short(octets));
     };
     if let Some(reason) = surplus(octets, reader) {
@@ -152,17 +169,17 @@ fn extras_agree(message: &Pairing) -> bool
 }
 
 /// Adds a Pairing without its header.
-pub(crate) fn add_pairing(out: &mut Octets, message: &Pairing) -> Option<()>
+pub(crate) fn add_pairing(out: &mut Octets, message: &Pairing) -> Result<(), NoRoom>
     ensures added { Adds (words.pairing message.now) out.old out.new result }
-    ensures widths { OnSome result (HasPairingWidths message.now) }
+    ensures widths { OnOk result (HasPairingWidths message.now) }
 {
     add_parts(out, message)
 }
 
 /// Adds its parts.
-fn add_parts(out: &mut Octets, message: &Pairing) -> Option<()>
+fn add_parts(out: &mut Octets, message: &Pairing) -> Result<(), NoRoom>
     ensures added { Adds (pairing_in_parts message.now) out.old out.new result }
-    ensures widths { OnSome result (HasPairingWidths message.now) }
+    ensures widths { OnOk result (HasPairingWidths message.now) }
 {
     add_number24(out, message.options)?;
     add_route(
@@ -187,9 +204,9 @@ fn add_parts(out: &mut Octets, message: &Pairing) -> Option<()>
 
 /// Adds the device, and where its frames are to go.
 #[tactic(auto, unfolding(crate::specs::Inside::route_octets))]
-fn add_route(out: &mut Octets, route: Route) -> Option<()>
+fn add_route(out: &mut Octets, route: Route) -> Result<(), NoRoom>
     ensures added { Adds (route_octets route) out.old out.new result }
-    ensures widths { OnSome result (HasRouteWidths route) }
+    ensures widths { OnOk result (HasRouteWidths route) }
 {
     add_src(out, route.src)?;
     add_sink_if(out, route.sink)?;
@@ -199,9 +216,9 @@ fn add_route(out: &mut Octets, route: Route) -> Option<()>
 
 /// Adds counter, key, alias and radius.
 #[tactic(auto, unfolding(crate::specs::Inside::extras_octets))]
-fn add_extras(out: &mut Octets, extras: Extras) -> Option<()>
+fn add_extras(out: &mut Octets, extras: Extras) -> Result<(), NoRoom>
     ensures added { Adds (extras_octets extras) out.old out.new result }
-    ensures widths { OnSome result (HasExtrasWidths extras) }
+    ensures widths { OnOk result (HasExtrasWidths extras) }
 {
     add_number32_if(out, extras.counter)?;
     add_key_if(out, extras.key)?;

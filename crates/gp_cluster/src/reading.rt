@@ -4,7 +4,7 @@ ghost use Rattle.std.specs.Prelude.{◌≡◌, ◌≤◌, length, IfOk, IfErr, S
 ghost use Rattle.gp_cluster.specs.declared.message.Zcl.{Zcl};
 ghost use Rattle.gp_cluster.specs.declared.message.ClusterReason.{ClusterReason};
 ghost use Rattle.gp_base.specs.Table.{answer};
-ghost use Rattle.gp_cluster.specs.Message.{Message, body_reason, body_at, first_reason, reading, reading_behind};
+ghost use Rattle.gp_cluster.specs.Message.{Message, body_reason, body_at, first_reason, reason_behind, reading, message_at};
 
 use crate::kind::{Kind, has_header_form, kind_of};
 use crate::message::{Cluster, ClusterReason, Zcl, short};
@@ -35,7 +35,7 @@ pub fn decode(octets: &[u8]) -> Result<Zcl, ClusterReason>
 }
 
 /// Reads the header, and what stands behind it.
-#[tactic(auto, unfolding(crate::specs::Message::reading))]
+#[tactic(auto, unfolding(crate::specs::Message::reading, crate::specs::Message::first_reason))]
 fn read(octets: &[u8]) -> Result<Zcl, ClusterReason>
     ensures { result ≡ reading octets.now }
 {
@@ -58,7 +58,7 @@ fn read_behind(octets: &[u8], reader: &mut Reader) -> Result<Zcl, ClusterReason>
     requires place { reader.old.place ≡ 3 }
     requires long { 3 ≤ length octets.now }
     requires room { length octets.now ≤ 127 }
-    ensures { result ≡ reading_behind octets.now }
+    ensures { result ≡ answer (reason_behind octets.now) (message_at octets.now) }
 {
     let Some(kind) = kind_of(octets[0] / 8 % 2 == 1, octets[2]) else {
         return Err(ClusterReason::CommandUnknown { place: 2 });

@@ -1,16 +1,16 @@
 //! Response.
 
-ghost use Rattle.std.specs.Prelude.{◌≡◌, ◌≤◌, length, OnSome};
+ghost use Rattle.std.specs.Prelude.{◌≡◌, ◌≤◌, length, OnOk};
 ghost use Rattle.gp_base.specs.Field.{Adds, octet_at};
 ghost use Rattle.gp_base.specs.Table.{answer};
-ghost use Rattle.gp_cluster.specs.Inside.{TakesTo};
-ghost use Rattle.gp_cluster.specs.Responded as words;
-ghost use Rattle.gp_cluster.specs.Responded.{response_end, response_reason, response_at, HasResponseWidths};
+ghost use Rattle.gp_base.specs.Walk.{TakesTo};
+ghost use Rattle.gp_cluster.specs.Response as words;
+ghost use Rattle.gp_cluster.specs.Response.{response_end, response_reason, response_at, HasResponseWidths};
 
-use crate::field::{add_src, add_string, src, string, surplus};
+use crate::field::{add_string, string, surplus};
 use crate::message::{ClusterReason, Response, short};
 use crate::options::application_id;
-use gp_base::field::{add_number16, add_octet, number16, octet};
+use gp_base::field::{NoRoom, Short, add_number16, add_octet, add_src, number16, octet, src};
 use gp_base::{Octets, Reader};
 
 /// Reads a Response after its header.
@@ -20,13 +20,13 @@ pub(crate) fn read_response(octets: &[u8], reader: &mut Reader) -> Result<Respon
     requires room { length octets.now ≤ 127 }
     ensures { result ≡ answer (response_reason octets.now) (response_at octets.now) }
 {
-    let Some(options) = octet(reader) else {
+    let Ok(options) = octet(reader) else {
         return Err(short(octets));
     };
     if application_id(options as u32) != 0 {
         return Err(ClusterReason::AppId { place: 3 });
     }
-    let Some(message) = take_fields(reader, options) else {
+    let Ok(message) = take_fields(reader, options) else {
         return Err(short(octets));
     };
     if let Some(reason) = surplus(octets, reader) {
@@ -36,7 +36,7 @@ pub(crate) fn read_response(octets: &[u8], reader: &mut Reader) -> Result<Respon
 }
 
 /// Takes the fields after the options.
-fn take_fields(reader: &mut Reader, options: u8) -> Option<Response>
+fn take_fields(reader: &mut Reader, options: u8) -> Result<Response, Short>
     requires place { reader.old.place ≡ 4 }
     requires room { length reader.old.octets ≤ 127 }
     requires options { options ≡ octet_at reader.old.octets 3 }
@@ -47,7 +47,7 @@ fn take_fields(reader: &mut Reader, options: u8) -> Option<Response>
     let src = src(reader)?;
     let command = octet(reader)?;
     let payload = string(reader)?;
-    Some(Response {
+    Ok(Response {
         options,
         master,
         channel,
@@ -65,10 +65,10 @@ pub(crate) fn response_agrees(message: &Response) -> bool
 }
 
 /// Adds a Response without its header.
-#[tactic(auto, unfolding(crate::specs::Responded::response))]
-pub(crate) fn add_response(out: &mut Octets, message: &Response) -> Option<()>
+#[tactic(auto, unfolding(crate::specs::Response::response))]
+pub(crate) fn add_response(out: &mut Octets, message: &Response) -> Result<(), NoRoom>
     ensures added { Adds (words.response message.now) out.old out.new result }
-    ensures widths { OnSome result (HasResponseWidths message.now) }
+    ensures widths { OnOk result (HasResponseWidths message.now) }
 {
     add_octet(out, message.options)?;
     add_number16(out, message.master)?;

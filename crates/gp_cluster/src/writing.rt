@@ -1,6 +1,6 @@
 //! Which messages have a spelling, and that spelling.
 
-ghost use Rattle.std.specs.Prelude.{◌≡◌, ◌<◌, ◌≤◌, ◌↔◌, length, IsTrue, OnSome, MatchOption};
+ghost use Rattle.std.specs.Prelude.{◌≡◌, ◌<◌, ◌≤◌, ◌↔◌, length, IsTrue, OnOk, MatchResult};
 ghost use Rattle.std.specs.Bool.{OnTrue};
 ghost use Rattle.gp_base.specs.Field.{Adds, IsOctets};
 ghost use Rattle.gp_cluster.specs.Message as words;
@@ -13,7 +13,7 @@ use crate::notification::{add_notice, add_notification, notice_agrees, notificat
 use crate::pairing::{add_pairing, pairing_agrees};
 use crate::response::{add_response, response_agrees};
 use gp_base::Octets;
-use gp_base::field::add;
+use gp_base::field::{NoRoom, add};
 
 /// Whether a message is one that some octets decode to (Zigbee PRO Green Power, A.3.3.4 and A.3.3.5): the ApplicationID
 /// is 0 where there is one, each field is there exactly where the options say so, the options of a Pairing fit three
@@ -31,8 +31,8 @@ pub fn encode(zcl: &Zcl) -> Octets
     ensures spelled { Message zcl.now result }
 {
     match spell(zcl) {
-        Some(octets) => octets,
-        None => unreachable!(),
+        Ok(octets) => octets,
+        Err(_) => unreachable!(),
     }
 }
 
@@ -56,34 +56,26 @@ fn has_room(zcl: &Zcl) -> bool
     ensures widths { OnTrue result (HasWidths zcl.now.body) }
 {
     match spell(zcl) {
-        Some(octets) => is_short(octets.as_slice()),
-        None => false,
+        Ok(octets) => octets.as_slice().len() <= 127,
+        Err(_) => false,
     }
 }
 
-/// Whether octets are at most 127, as many as a message may have.
-fn is_short(octets: &[u8]) -> bool
-    ensures room { IsTrue result ↔ (length octets.now ≤ 127) }
-    ensures octets { IsOctets octets.now }
-{
-    octets.len() <= 127
-}
-
-/// The octets of a message, `None` where they are more than 127.
-fn spell(zcl: &Zcl) -> Option<Octets>
-    ensures octets { MatchOption result (127 < length (spelling zcl.now)) (λ octets. octets ≡ spelling zcl.now) }
-    ensures widths { OnSome result (HasWidths zcl.now.body) }
+/// The octets of a message, `NoRoom` where they are more than 127.
+fn spell(zcl: &Zcl) -> Result<Octets, NoRoom>
+    ensures octets { MatchResult result (λ octets. octets ≡ spelling zcl.now) (λ _. 127 < length (spelling zcl.now)) }
+    ensures widths { OnOk result (HasWidths zcl.now.body) }
 {
     let mut out = Octets::new();
     add_message(&mut out, zcl)?;
-    Some(out)
+    Ok(out)
 }
 
 /// Adds a message.
 #[tactic(auto, unfolding(crate::specs::Message::spelling))]
-fn add_message(out: &mut Octets, zcl: &Zcl) -> Option<()>
+fn add_message(out: &mut Octets, zcl: &Zcl) -> Result<(), NoRoom>
     ensures added { Adds (spelling zcl.now) out.old out.new result }
-    ensures widths { OnSome result (HasWidths zcl.now.body) }
+    ensures widths { OnOk result (HasWidths zcl.now.body) }
 {
     let kind = kind_in(&zcl.body);
     let control = control(kind.is_from_sink(), zcl.quiet);
@@ -92,9 +84,9 @@ fn add_message(out: &mut Octets, zcl: &Zcl) -> Option<()>
 }
 
 /// Adds what stands behind the header.
-fn add_body(out: &mut Octets, body: &Cluster) -> Option<()>
+fn add_body(out: &mut Octets, body: &Cluster) -> Result<(), NoRoom>
     ensures added { Adds (words.body body.now) out.old out.new result }
-    ensures widths { OnSome result (HasWidths body.now) }
+    ensures widths { OnOk result (HasWidths body.now) }
 {
     match body {
         Cluster::Notification(message) => add_notification(out, message),

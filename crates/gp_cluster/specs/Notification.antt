@@ -1,29 +1,26 @@
 -- Notification and Commissioning Notification (Zigbee PRO Green Power, A.3.3.4).
-use Rattle.std.specs.Prelude.{ℕ, ◌+◌, ◌<◌, ◌^◌, ◌≡◌, ◌==◌, Bool, not, ◌&&◌, nat_lt, List, [], ◌∷◌, length, Option, is_some, IfSome}
-use Rattle.std.specs.Int.{w16, w32, to_le_bytes}
-use Rattle.gp_base.specs.Field.{agree, joined, octet, optional, part, two_at, size_if, value_if}
+use Rattle.std.specs.Prelude.{ℕ, ◌+◌, ◌<◌, ◌^◌, ◌≡◌, ◌==◌, Bool, ◌&&◌, List, [], ◌∷◌, length, Option, is_some, IfSome}
+use Rattle.std.specs.Int.{w16, to_le_bytes}
+use Rattle.gp_base.specs.Field.{agree, joined, optional, part, two_at, size_if, value_if}
 use Rattle.gp_base.specs.Table.{first_of}
 use Rattle.gp_cluster.specs.declared.message.Notification.{Notification}
 use Rattle.gp_cluster.specs.declared.message.CommissioningNotice.{CommissioningNotice}
 use Rattle.gp_cluster.specs.declared.message.ClusterReason.{ClusterReason}
-use Rattle.gp_cluster.specs.declared.message.ClusterReason.TheVariants.{Short, AppId, Trailing}
+use Rattle.gp_cluster.specs.Ending.{ending_lines, foreign_line, missing_line}
 use Rattle.gp_cluster.specs.Options.{application_id, has_proxy, notice_has_proxy, has_failed}
-use Rattle.gp_cluster.specs.Fields.{octet_string, IsString, proxy_octets}
-use Rattle.gp_cluster.specs.Tunnel.{tunnel_end, tunnel_at}
+use Rattle.gp_cluster.specs.Fields.{IsString}
+use Rattle.gp_cluster.specs.Tunnel.{Tunnel, tunnel_octets, tunnel_end, tunnel_at}
 
 -- ---- Notification
+
+-- the frame and the proxy in it
+abbrev pub tunnel_of : Notification → Tunnel
+tunnel_of m = record { src = m.src; counter = m.counter; command = m.command; payload = m.payload; proxy = m.proxy }
 
 -- its octets after the header
 unfoldable pub notification : Notification → List ℕ
 notification m =
-    joined
-    (to_le_bytes w16 m.options
-    ∷ to_le_bytes w32 m.src.0
-    ∷ to_le_bytes w32 m.counter
-    ∷ octet m.command
-    ∷ octet_string m.payload
-    ∷ optional proxy_octets m.proxy
-    ∷ [])
+    joined (to_le_bytes w16 m.options ∷ tunnel_octets (tunnel_of m) ∷ [])
 
 -- The ApplicationID is 0, and proxy info is there exactly where its bit says so.
 abbrev pub notification_agrees : Notification → Bool
@@ -45,11 +42,7 @@ notification_end octets = tunnel_end (has_proxy (two_at octets 3)) octets
 abbrev pub notification_reason : List ℕ → Option ClusterReason
 notification_reason octets =
     first_of
-    ((nat_lt (length octets) 5, Short (length octets))
-    ∷ (not (application_id (two_at octets 3) == 0), AppId 3)
-    ∷ (nat_lt (length octets) (notification_end octets), Short (length octets))
-    ∷ (nat_lt (notification_end octets) (length octets), Trailing (notification_end octets))
-    ∷ [])
+    (missing_line 5 octets ∷ foreign_line (two_at octets 3) ∷ ending_lines (notification_end octets) octets)
 
 -- what stands at its places
 abbrev pub notification_at : List ℕ → Notification
@@ -66,18 +59,14 @@ notification_at octets =
 
 -- ---- Commissioning Notification
 
+-- the frame and the proxy in it
+abbrev pub notice_tunnel_of : CommissioningNotice → Tunnel
+notice_tunnel_of m = record { src = m.src; counter = m.counter; command = m.command; payload = m.payload; proxy = m.proxy }
+
 -- its octets after the header
 unfoldable pub notice : CommissioningNotice → List ℕ
 notice m =
-    joined
-    (to_le_bytes w16 m.options
-    ∷ to_le_bytes w32 m.src.0
-    ∷ to_le_bytes w32 m.counter
-    ∷ octet m.command
-    ∷ octet_string m.payload
-    ∷ optional proxy_octets m.proxy
-    ∷ optional (λ mic. mic) m.mic
-    ∷ [])
+    joined (to_le_bytes w16 m.options ∷ tunnel_octets (notice_tunnel_of m) ∷ optional (λ mic. mic) m.mic ∷ [])
 
 -- The ApplicationID is 0, and proxy info and MIC are there exactly where their bits say so.
 abbrev pub notice_agrees : CommissioningNotice → Bool
@@ -106,11 +95,7 @@ notice_end octets = mic_place octets + size_if (has_failed (two_at octets 3)) 4
 abbrev pub notice_reason : List ℕ → Option ClusterReason
 notice_reason octets =
     first_of
-    ((nat_lt (length octets) 5, Short (length octets))
-    ∷ (not (application_id (two_at octets 3) == 0), AppId 3)
-    ∷ (nat_lt (length octets) (notice_end octets), Short (length octets))
-    ∷ (nat_lt (notice_end octets) (length octets), Trailing (notice_end octets))
-    ∷ [])
+    (missing_line 5 octets ∷ foreign_line (two_at octets 3) ∷ ending_lines (notice_end octets) octets)
 
 -- what stands at its places
 abbrev pub notice_at : List ℕ → CommissioningNotice

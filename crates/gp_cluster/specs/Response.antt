@@ -1,13 +1,13 @@
 -- Response (Zigbee PRO Green Power, A.3.3.5).
-use Rattle.std.specs.Prelude.{ℕ, ◌+◌, ◌<◌, ◌^◌, ◌==◌, Bool, not, nat_lt, List, [], ◌∷◌, length, Option}
-use Rattle.std.specs.Int.{w16, w32, to_le_bytes}
-use Rattle.gp_base.specs.Field.{joined, octet, octet_at, two_at}
+use Rattle.std.specs.Prelude.{ℕ, ◌+◌, ◌<◌, ◌^◌, ◌==◌, Bool, List, [], ◌∷◌, Option}
+use Rattle.std.specs.Int.{w16, to_le_bytes}
+use Rattle.gp_base.specs.Field.{joined, octet, octet_at, two_at, src_octets, src_at}
 use Rattle.gp_base.specs.Table.{first_of}
 use Rattle.gp_cluster.specs.declared.message.Response.{Response}
 use Rattle.gp_cluster.specs.declared.message.ClusterReason.{ClusterReason}
-use Rattle.gp_cluster.specs.declared.message.ClusterReason.TheVariants.{Short, AppId, Trailing}
+use Rattle.gp_cluster.specs.Ending.{ending_lines, foreign_line, missing_line}
 use Rattle.gp_cluster.specs.Options.{application_id}
-use Rattle.gp_cluster.specs.Fields.{octet_string, IsString, src_at, string_size, string_at}
+use Rattle.gp_cluster.specs.Fields.{octet_string, IsString, string_size, string_at}
 
 -- its octets after the header
 unfoldable pub response : Response → List ℕ
@@ -16,7 +16,7 @@ response m =
     (octet m.options
     ∷ to_le_bytes w16 m.master
     ∷ octet m.channel
-    ∷ to_le_bytes w32 m.src.0
+    ∷ src_octets m.src
     ∷ octet m.command
     ∷ octet_string m.payload
     ∷ [])
@@ -39,11 +39,7 @@ response_end octets = 12 + string_size octets 12
 abbrev pub response_reason : List ℕ → Option ClusterReason
 response_reason octets =
     first_of
-    ((nat_lt (length octets) 4, Short (length octets))
-    ∷ (not (application_id (octet_at octets 3) == 0), AppId 3)
-    ∷ (nat_lt (length octets) (response_end octets), Short (length octets))
-    ∷ (nat_lt (response_end octets) (length octets), Trailing (response_end octets))
-    ∷ [])
+    (missing_line 4 octets ∷ foreign_line (octet_at octets 3) ∷ ending_lines (response_end octets) octets)
 
 -- what stands at its places
 abbrev pub response_at : List ℕ → Response

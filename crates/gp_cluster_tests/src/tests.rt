@@ -1,7 +1,9 @@
-//! What no clause says: values from the formats, and that the calls succeed.
-
-use super::*;
 use gp_base::{Key, Octets, Src};
+use gp_cluster::options::{ModeOptions, NoticeOptions, NotificationOptions, PairingOptions};
+use gp_cluster::{
+    Cluster, ClusterReason, CommissioningNotice, Notification, Pairing, ProxyMode, Response, Zcl,
+    decode, encode, valid,
+};
 use std::process::Abort;
 
 const KEY: [u8; 16] = [
@@ -422,4 +424,54 @@ fn invalid(rt: HostRuntime) {
     assert!(rt; !valid(&removal(0x100_0010)));
     assert!(rt; !valid(&removal(0x00)));
     assert!(rt; !valid(&removal(0x20)));
+}
+
+/// Level and key type of the three kinds of options that have both.
+#[test]
+fn levels_and_key_types(rt: HostRuntime) {
+    for level in 0..4u8 {
+        for key_type in 0..8u8 {
+            let notification = NotificationOptions(0x40 * level as u16 + 0x0100 * key_type as u16);
+            assert_eq!(rt; notification.level(), level);
+            assert_eq!(rt; notification.key_type(), key_type);
+            let notice = NoticeOptions(0x10 * level as u16 + 0x40 * key_type as u16);
+            assert_eq!(rt; notice.level(), level);
+            assert_eq!(rt; notice.key_type(), key_type);
+            let pairing = PairingOptions(0x0200 * level as u32 + 0x0800 * key_type as u32);
+            assert_eq!(rt; pairing.level(), level);
+            assert_eq!(rt; pairing.key_type(), key_type);
+        }
+    }
+}
+
+/// Each named bit of the options, alone.
+#[test]
+fn named_bits(rt: HostRuntime) {
+    for (bit, weight) in [
+        (3, 8),
+        (4, 0x10),
+        (5, 0x20),
+        (11, 0x0800),
+        (12, 0x1000),
+        (13, 0x2000),
+        (14, 0x4000),
+    ] {
+        let options = NotificationOptions(weight);
+        assert_eq!(rt; options.also_unicast(), bit == 3);
+        assert_eq!(rt; options.also_derived(), bit == 4);
+        assert_eq!(rt; options.also_commissioned(), bit == 5);
+        assert_eq!(rt; options.rx_after(), bit == 11);
+        assert_eq!(rt; options.queue_is_full(), bit == 12);
+        assert_eq!(rt; options.is_bidirectional(), bit == 13);
+        assert_eq!(rt; options.has_proxy(), bit == 14);
+    }
+    for (bit, weight) in [(0, 1), (1, 2), (2, 4), (3, 8), (4, 0x10), (5, 0x20)] {
+        let options = ModeOptions(weight);
+        assert_eq!(rt; options.enters(), bit == 0);
+        assert_eq!(rt; options.has_window(), bit == 1);
+        assert_eq!(rt; options.ends_on_pairing(), bit == 2);
+        assert_eq!(rt; options.ends_on_command(), bit == 3);
+        assert_eq!(rt; options.has_channel(), bit == 4);
+        assert_eq!(rt; options.tells_by_unicast(), bit == 5);
+    }
 }

@@ -1,11 +1,11 @@
 -- Proxy Commissioning Mode (Zigbee PRO Green Power, A.3.3.5).
-use Rattle.std.specs.Prelude.{ℕ, ◌+◌, ◌<◌, ◌^◌, Bool, ◌&&◌, nat_lt, List, [], ◌∷◌, length, Option, is_some, IfSome}
+use Rattle.std.specs.Prelude.{ℕ, ◌+◌, ◌<◌, ◌^◌, Bool, ◌&&◌, List, [], ◌∷◌, Option, is_some, IfSome}
 use Rattle.std.specs.Int.{w16, to_le_bytes}
 use Rattle.gp_base.specs.Field.{agree, joined, octet, octet_at, optional, two_at, size_if, value_if}
 use Rattle.gp_base.specs.Table.{first_of}
 use Rattle.gp_cluster.specs.declared.message.ProxyMode.{ProxyMode}
 use Rattle.gp_cluster.specs.declared.message.ClusterReason.{ClusterReason}
-use Rattle.gp_cluster.specs.declared.message.ClusterReason.TheVariants.{Short, Trailing}
+use Rattle.gp_cluster.specs.Ending.{ending_lines}
 use Rattle.gp_cluster.specs.Options.{has_window, has_channel}
 
 -- its octets after the header
@@ -29,11 +29,7 @@ proxy_mode_end octets = channel_place octets + size_if (has_channel (octet_at oc
 
 -- its first fault
 abbrev pub proxy_mode_reason : List ℕ → Option ClusterReason
-proxy_mode_reason octets =
-    first_of
-    ((nat_lt (length octets) (proxy_mode_end octets), Short (length octets))
-    ∷ (nat_lt (proxy_mode_end octets) (length octets), Trailing (proxy_mode_end octets))
-    ∷ [])
+proxy_mode_reason octets = first_of (ending_lines (proxy_mode_end octets) octets)
 
 -- what stands at its places
 abbrev pub proxy_mode_at : List ℕ → ProxyMode

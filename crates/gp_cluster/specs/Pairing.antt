@@ -1,22 +1,23 @@
 -- Pairing (Zigbee PRO Green Power, A.3.3.5).
-use Rattle.std.specs.Prelude.{◌≡◌, ℕ, ◌+◌, ◌<◌, ◌^◌, ◌==◌, Bool, not, ◌&&◌, nat_lt, List, [], ◌∷◌, length, Option, is_some, IfSome}
+use Rattle.std.specs.Prelude.{◌≡◌, ℕ, ◌+◌, ◌<◌, ◌^◌, ◌==◌, Bool, not, ◌&&◌, nat_lt, List, [], ◌∷◌, ◌++◌, length, Option, is_some, IfSome}
 use Rattle.std.specs.Int.{w16, w32, to_le_bytes}
-use Rattle.gp_base.specs.Field.{agree, joined, octet, octet_at, optional, two_at, four_at, key_octets, key_at, size_if, value_if}
+use Rattle.gp_base.specs.Field.{agree, joined, octet, octet_at, optional, two_at, four_at, key_octets, key_at, size_if, value_if, src_octets, src_at}
 use Rattle.gp_base.specs.Table.{first_of}
 use Rattle.gp_cluster.specs.declared.message.Pairing.{Pairing}
 use Rattle.gp_cluster.specs.declared.message.ClusterReason.{ClusterReason}
-use Rattle.gp_cluster.specs.declared.message.ClusterReason.TheVariants.{Short, AppId, Mode, Trailing}
-use Rattle.gp_cluster.specs.declared.pairing.Route.{Route}
-use Rattle.gp_cluster.specs.declared.pairing.Extras.{Extras}
+use Rattle.gp_cluster.specs.declared.message.ClusterReason.TheVariants.{Mode}
+use Rattle.gp_base.specs.declared.identity.Src.{Src}
+use Rattle.gp_base.specs.declared.identity.Key.{Key}
+use Rattle.gp_cluster.specs.Ending.{ending_lines, foreign_line, missing_line}
 use Rattle.gp_cluster.specs.Options.{application_id, adds_sink, lacks_mode, has_sink, has_group, has_counter, has_key, has_alias, has_radius}
-use Rattle.gp_cluster.specs.Fields.{three_octets, three_at, src_at, sink_octets, sink_at}
+use Rattle.gp_cluster.specs.Fields.{three_octets, three_at, sink_octets, sink_at}
 
 -- its octets after the header
 unfoldable pub pairing : Pairing → List ℕ
 pairing m =
     joined
     (three_octets m.options
-    ∷ to_le_bytes w32 m.src.0
+    ∷ src_octets m.src
     ∷ optional sink_octets m.sink
     ∷ optional (to_le_bytes w16) m.group
     ∷ optional octet m.device
@@ -56,6 +57,22 @@ pub record HasPairingWidths (m : Pairing) : Type 0 where
   pub counter : IfSome m.counter (λ n. n < 2 ^ 32)
   pub key : IfSome m.key (λ key. length (key_octets key) ≡ 16)
   pub alias : IfSome m.alias (λ n. n < 2 ^ 16)
+
+-- ---- its two parts
+
+-- the device, and where its frames are to go
+pub record Route : Type 0 where
+  pub src : Src
+  pub sink : Option (ℕ × ℕ)
+  pub group : Option ℕ
+  pub device : Option ℕ
+
+-- what a Pairing may tell besides
+pub record Extras : Type 0 where
+  pub counter : Option ℕ
+  pub key : Option Key
+  pub alias : Option ℕ
+  pub radius : Option ℕ
 
 -- ---- places
 
@@ -102,20 +119,18 @@ extras_at options octets place = record {
 abbrev pub pairing_end : List ℕ → ℕ
 pairing_end octets = extras_end (three_at octets 3) (route_end (three_at octets 3))
 
--- the fault of its options
+-- the faults of its options
+abbrev pub options_lines : ℕ → List (Bool × ClusterReason)
+options_lines options = foreign_line options ∷ (lacks_mode options, Mode 3) ∷ []
+
 abbrev pub options_reason : ℕ → Option ClusterReason
-options_reason options = first_of ((not (application_id options == 0), AppId 3) ∷ (lacks_mode options, Mode 3) ∷ [])
+options_reason options = first_of (options_lines options)
 
 -- its first fault
 abbrev pub pairing_reason : List ℕ → Option ClusterReason
 pairing_reason octets =
     first_of
-    ((nat_lt (length octets) 6, Short (length octets))
-    ∷ (not (application_id (three_at octets 3) == 0), AppId 3)
-    ∷ (lacks_mode (three_at octets 3), Mode 3)
-    ∷ (nat_lt (length octets) (pairing_end octets), Short (length octets))
-    ∷ (nat_lt (pairing_end octets) (length octets), Trailing (pairing_end octets))
-    ∷ [])
+    (missing_line 6 octets ∷ (options_lines (three_at octets 3) ++ ending_lines (pairing_end octets) octets))
 
 -- what stands at its places
 abbrev pub pairing_at : List ℕ → Pairing
