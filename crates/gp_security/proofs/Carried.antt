@@ -8,7 +8,11 @@ use Rattle.gp_base.specs.Field.{octet, optional}
 use Rattle.gp_frames.specs.declared.frame.Ext.{Ext}
 use Rattle.gp_frames.specs.declared.frame.Gpdf.{Gpdf}
 use Rattle.gp_frames.specs.declared.frame.Mpdu.{Mpdu}
+use Rattle.gp_frames.proofs.Headers.{flat, spelling-flat}
 use Rattle.gp_frames.specs.Frame.{IsCarried, IsFrame, Frame, extension, is_secured, level_of, spelling}
+
+pub carried-frame : (f : Gpdf) → IsCarried f → IsFrame f
+carried-frame f h = subst (λ (g : Gpdf). IsFrame g) h.1 h.2.1.frame
 
 pub carried-secured : (f : Gpdf) → 2 ≤ level_of f → IsTrue (is_secured f)
 carried-secured f h = lt-ltb 1 (level_of f) h
@@ -50,8 +54,8 @@ lengths_of f h two =
     }
 
 -- the octets of a secured MPDU besides its body are 21
-pub spelling-length : (v : Mpdu) → HasLengths v.frame → length (spelling v) ≡ 21 + length v.frame.body
-spelling-length v h =
+flat-length : (v : Mpdu) → HasLengths v.frame → length (flat v) ≡ 21 + length v.frame.body
+flat-length v h =
     let f = v.frame in
     let ext = optional (λ e. octet (extension e)) f.ext in
     let src = optional (λ s. to_le_bytes w32 s.0) f.src in
@@ -68,6 +72,9 @@ spelling-length v h =
       length-append counter (f.body ++ mic),
       length-append f.body mic,
     )
+
+pub spelling-length : (v : Mpdu) → HasLengths v.frame → length (spelling v) ≡ 21 + length v.frame.body
+spelling-length v h = ap length (spelling-flat v) ∙ flat-length v h
 
 room_of : (v : Mpdu) (b : List ℕ) → Frame v b → 2 ≤ level_of v.frame → length v.frame.body ≤ 104
 room_of v b h two =

@@ -14,7 +14,8 @@ use Rattle.gp_cluster.specs.declared.message.CommissioningNotice.{CommissioningN
 use Rattle.gp_cluster.specs.Fields.{octet_string, proxy_octets}
 use Rattle.gp_cluster.specs.Kind.{command_number, is_from_sink, kind_in}
 use Rattle.gp_cluster.specs.Message.{HasWidths, body, control, fields_agree, spelling}
-use Rattle.gp_cluster.specs.Notified.{HasNoticeWidths, notice, notice_agrees}
+use Rattle.gp_cluster.specs.Notification.{HasNoticeWidths, notice, notice_agrees, notice_tunnel_of}
+use Rattle.gp_cluster.specs.Tunnel.{tunnel_octets}
 use Rattle.gp_cluster.specs.Options.{has_failed, notice_level}
 use Rattle.gp_security.specs.Notice.{IsReceived, frame_in, has_frame, payload_of, rebuilt}
 use Rattle.gp_frames.specs.Frame.{IsCarried}
@@ -56,19 +57,21 @@ pub record HasOctets (n : CommissioningNotice) : Type 0 where
   pub mic : IsOctets (optional (λ (m : List ℕ). m) n.mic)
 
 notice_octets : (n : CommissioningNotice) → IsOctets (notice n) → HasOctets n
-unfolding notice
+unfolding notice tunnel_octets
 notice_octets n h =
     let mic = optional (λ (m : List ℕ). m) n.mic in
-    let proxied = optional proxy_octets n.proxy ++ mic in
-    let told = octet_string n.payload ++ proxied in
+    let proxy = optional proxy_octets n.proxy in
+    let told = octet_string n.payload ++ proxy in
     let commanded = (n.command ∷ []) ++ told in
     let counted = to_le_bytes w32 n.counter ++ commanded in
-    let command = octets-right (to_le_bytes w32 n.counter) commanded (octets-right (to_le_bytes w32 n.src.0) counted (octets-right (to_le_bytes w16 n.options) (to_le_bytes w32 n.src.0 ++ counted) h)) in
+    let behind = octets-right (to_le_bytes w16 n.options) (tunnel_octets (notice_tunnel_of n) ++ mic) h in
+    let tunnel = octets-left (tunnel_octets (notice_tunnel_of n)) mic behind in
+    let command = octets-right (to_le_bytes w32 n.counter) commanded (octets-right (to_le_bytes w32 n.src.0) counted tunnel) in
     let payload = octets-right (n.command ∷ []) told command in
     record {
       command = command 0;
-      payload = octets-left (octet_string n.payload) proxied payload;
-      mic = octets-right (optional proxy_octets n.proxy) mic (octets-right (octet_string n.payload) proxied payload);
+      payload = octets-left (octet_string n.payload) proxy payload;
+      mic = octets-right (tunnel_octets (notice_tunnel_of n)) mic behind;
     }
 
 string_octets : (o : Option (List ℕ)) → IsOctets (octet_string o) → IsOctets (option_map_or (λ (xs : List ℕ). xs) o [])

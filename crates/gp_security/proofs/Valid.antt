@@ -1,5 +1,5 @@
 -- A secured data frame whose fields fit stands in a valid MPDU.
-use Rattle.std.proofs.Common.{◌≡◌, ℕ, zero, suc, ◌^◌, ◌<◌, ◌≤◌, ◌⊎◌, inl, inr, Bool, true, false, not, ◌||◌, List, [], ◌∷◌, ◌++◌, length, Option, Some, None, refl, sym, ap, ◌∙◌, arith}
+use Rattle.std.proofs.Common.{◌≡◌, ℕ, zero, suc, ◌^◌, ◌<◌, ◌≤◌, ◌⊎◌, inl, inr, Bool, true, false, not, ◌||◌, List, [], ◌∷◌, ◌++◌, length, Option, Some, None, refl, sym, ap, subst, ◌∙◌, arith}
 use Rattle.std.specs.Prelude.{IfSome, is_some}
 use Rattle.std.specs.Option.{option_map_or}
 use Rattle.std.specs.Int.{w16, w32, to_le_bytes}
@@ -7,6 +7,7 @@ use Rattle.gp_base.specs.Field.{IsOctets, flag, octet, optional}
 use Rattle.gp_frames.specs.declared.frame.Ext.{Ext}
 use Rattle.gp_frames.specs.declared.frame.Gpdf.{Gpdf}
 use Rattle.gp_frames.specs.declared.frame.Mpdu.{Mpdu}
+use Rattle.gp_frames.proofs.Headers.{flat, spelling-flat}
 use Rattle.gp_frames.specs.Frame.{IsFrame, IsValid, control, extension, level_of, spelling}
 use Rattle.gp_security.proofs.Carried.{carried-secured, lengths_of, spelling-length}
 
@@ -52,8 +53,8 @@ extension-small : (o : Option Ext) → IfSome o (λ e. e.level ≤ 3) → IfSome
 extension-small None h = tt
 extension-small (Some e) h = octets-one (extension e) (omega (arith, h, flag-small e.individual, flag-small e.rx_after, flag-small e.to_device))
 
-spelling-octets : (v : Mpdu) → v.seq < 2 ^ 8 → IfSome v.frame.ext (λ e. e.level ≤ 3) → IsOctets v.frame.body → IfSome v.frame.mic (λ m. IsOctets m) → IsOctets (spelling v)
-spelling-octets v seq level body mic =
+flat-octets : (v : Mpdu) → v.seq < 2 ^ 8 → IfSome v.frame.ext (λ e. e.level ≤ 3) → IsOctets v.frame.body → IfSome v.frame.mic (λ m. IsOctets m) → IsOctets (flat v)
+flat-octets v seq level body mic =
     let f = v.frame in
     let tag = optional (λ (m : List ℕ). m) f.mic in
     let counter = optional (to_le_bytes w32) f.counter in
@@ -126,7 +127,7 @@ valid_of v seq pan dest h =
         dest = dest;
         frame = frame;
         limit = omega (arith, spelling-length v lengths, h.room);
-        are_octets = spelling-octets v seq (ext_level v.frame.ext (three v.frame h.level)) h.body_octets h.mic_octets;
+        are_octets = subst IsOctets (sym (spelling-flat v)) (flat-octets v seq (ext_level v.frame.ext (three v.frame h.level)) h.body_octets h.mic_octets);
         spelled = refl;
       },
     )

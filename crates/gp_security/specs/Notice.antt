@@ -1,4 +1,4 @@
--- The secured frame that a Commissioning Notification reports (Zigbee PRO Green Power, A.3.3.4.3): security processing
+-- The secured frame that a Commissioning Notification reports (Zigbee PRO Green Power, A.3.3.4): security processing
 -- failed at the proxy, and so the frame stands in it as it was received.
 use Rattle.std.specs.Prelude.{◌≡◌, ℕ, ◌==◌, ◌||◌, ◌&&◌, nat_le, if◌then◌else◌, Bool, false, List, [], ◌∷◌, length, Option, Some, None}
 use Rattle.std.specs.Option.{option_map_or}

@@ -7,7 +7,7 @@ use Rattle.gp_base.specs.Field.{joined, octet}
 use Rattle.gp_ccm.specs.Ccm.{ccm, cipher_calls, encrypted}
 use Rattle.gp_frames.specs.declared.frame.Gpdf.{Gpdf}
 use Rattle.gp_frames.specs.declared.frame.Mpdu.{Mpdu}
-use Rattle.gp_frames.specs.Frame.{header, is_secured, level_of}
+use Rattle.gp_frames.specs.Frame.{IsFrame, header, is_secured, level_of}
 
 -- a nonce: three numbers of four octets, and 05
 abbrev pub nonce : ℕ → ℕ → ℕ → List ℕ
@@ -41,8 +41,9 @@ protected key frame command =
     let sealed = ccm key (nonce_of frame) (authenticated frame command) (message frame command) 4 in
     (if level_of frame == 3 then sealed.0 else command, sealed.1)
 
--- At level 2 or 3 the frame carries these command octets under the key.
+-- A frame that has a spelling, at level 2 or 3, carries these command octets under the key.
 pub record Good (key : List ℕ) (frame : Gpdf) (command : List ℕ) : Type 0 where
+  pub spelled : IsFrame frame
   pub secured : IsTrue (is_secured frame)
   pub body : frame.body ≡ (protected key frame command).0
   pub mic : frame.mic ≡ Some (protected key frame command).1

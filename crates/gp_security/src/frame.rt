@@ -1,12 +1,11 @@
 //! Frames of devices, sealed and opened.
 
-ghost use Rattle.std.specs.Prelude.{◌≡◌, ◌+◌, ◌<◌, ◌≤◌, ◌^◌, ◌⊎◌, List, ℕ, Ok, false, length, IfOk, IfSome, OnErr};
+ghost use Rattle.std.specs.Prelude.{◌≡◌, ◌+◌, ◌<◌, ◌≤◌, ◌^◌, ◌==◌, List, ℕ, Ok, Some, false, length, IfOk, IfSome, OnErr, if◌then◌else◌};
 ghost use Rattle.std.specs.Option.{option_map_or};
 ghost use Rattle.std.specs.Result.{OkIff, result_ok};
-ghost use Rattle.gp_base.specs.Field.{IsOctets};
 ghost use Rattle.gp_frames.specs.Frame.{IsCarried, IsValid, level_of};
 ghost use Rattle.gp_security.specs.Protection as words;
-ghost use Rattle.gp_security.specs.Protection.{Good, IsHead, protected, opened, frame_calls, with_body, in_clear};
+ghost use Rattle.gp_security.specs.Protection.{Good, IsHead, protected, message, opened, frame_calls, with_body, in_clear};
 
 use crate::nonce::{mic_of, nonce};
 use gp_base::field::add;
@@ -29,27 +28,44 @@ pub fn seal_frame<L: Ledger>(head: &Mpdu, command: &[u8], key: &Key, steps: &mut
     ensures bound { steps.new ≤ steps.old + 17 }
 {
     let sealed = protect(&head.frame, command, key, steps);
-    are_octets(sealed.cipher.as_slice());
-    fits(
-        head.seq,
-        head.pan,
-        head.dest,
-        head.frame.src,
-        head.frame.counter,
-    );
+    let mic = mic_of(sealed.tag.as_slice());
+    let frame = sealed_frame(&head.frame, sealed.cipher.as_slice(), mic);
+    mpdu_of(head.seq, head.pan, head.dest, frame)
+}
+
+/// A frame with this body and this MIC.
+fn sealed_frame(frame: &Gpdf, body: &[u8], mic: [u8; 4]) -> Gpdf
+    requires { length body.now ≤ 127 }
+    ensures { result ≡ record frame.now { body = body.now; mic = Some mic } }
+{
+    let Some(body) = Octets::of(body) else {
+        unreachable!();
+    };
+    Gpdf {
+        maintenance: frame.maintenance,
+        auto: frame.auto,
+        ext: frame.ext,
+        src: frame.src,
+        counter: frame.counter,
+        body,
+        mic: Some(mic),
+    }
+}
+
+/// The MPDU of these parts, whose numbers fit their octets.
+fn mpdu_of(seq: u8, pan: u16, dest: u16, frame: Gpdf) -> Mpdu
+    ensures value { result ≡ record { seq = seq; pan = pan; dest = dest; frame = frame } }
+    ensures seq { seq < 2 ^ 8 }
+    ensures pan { pan < 2 ^ 16 }
+    ensures dest { dest < 2 ^ 16 }
+    ensures src { IfSome frame.src (λ source. source.0 < 2 ^ 32) }
+    ensures counter { IfSome frame.counter (λ number. number < 2 ^ 32) }
+{
     Mpdu {
-        seq: head.seq,
-        pan: head.pan,
-        dest: head.dest,
-        frame: Gpdf {
-            maintenance: head.frame.maintenance,
-            auto: head.frame.auto,
-            ext: head.frame.ext,
-            src: head.frame.src,
-            counter: head.frame.counter,
-            mic: Some(mic_of(sealed.tag.as_slice())),
-            body: sealed.cipher,
-        },
+        seq,
+        pan,
+        dest,
+        frame,
     }
 }
 
@@ -89,53 +105,31 @@ fn protect<L: Ledger>(frame: &Gpdf, command: &[u8], key: &Key, steps: &mut Steps
     ensures cost { steps.new ≡ steps.old + frame_calls frame.now command.now }
 {
     let nonce = nonce_of(frame);
-    let covered = authenticated(frame, command);
-    if frame.level() == 3 {
-        return seal(
-            key,
-            &nonce,
-            covered.as_slice(),
-            command,
-            TagSize::Four,
-            steps,
-        );
-    }
-    let sealed = seal(key, &nonce, covered.as_slice(), &[], TagSize::Four, steps);
+    let covered = covered(frame, command);
+    let authenticated = covered.authenticated.as_slice();
+    let sealed = seal(
+        key,
+        &nonce,
+        authenticated,
+        covered.message,
+        TagSize::Four,
+        steps,
+    );
     Sealed {
-        cipher: Octets::of(command).unwrap(),
+        cipher: body_of(frame, sealed.cipher.as_slice(), command),
         tag: sealed.tag,
     }
 }
 
 /// The command octets of a frame at level 2 or 3, where this MIC is right.
+#[tactic(auto, using(crate::proofs::Opening::tag_is))]
 fn open<L: Ledger>(
     frame: &Gpdf,
     mic: [u8; 4],
     key: &Key,
     steps: &mut Steps<L>,
 ) -> Result<Octets, BadTag>
-    requires level { (level_of frame.now ≡ 2) ⊎ (level_of frame.now ≡ 3) }
-    requires room { length frame.now.body ≤ 104 }
-    ensures value { let command = in_clear key.now.0 frame.now in
-        OkIff result (mic ≡ (protected key.now.0 frame.now command).1) command }
-    ensures size { IfOk result (λ command. length command ≡ length frame.now.body) }
-    ensures cost { steps.new ≡ steps.old + frame_calls frame.now frame.now.body }
-{
-    if frame.level() == 3 {
-        open_three(frame, mic, key, steps)
-    } else {
-        open_two(frame, mic, key, steps)
-    }
-}
-
-/// The same at level 3.
-fn open_three<L: Ledger>(
-    frame: &Gpdf,
-    mic: [u8; 4],
-    key: &Key,
-    steps: &mut Steps<L>,
-) -> Result<Octets, BadTag>
-    requires level { level_of frame.now ≡ 3 }
+    requires level { level_of frame.now ≤ 3 }
     requires room { length frame.now.body ≤ 104 }
     ensures value { let command = in_clear key.now.0 frame.now in
         OkIff result (mic ≡ (protected key.now.0 frame.now command).1) command }
@@ -144,30 +138,55 @@ fn open_three<L: Ledger>(
 {
     let nonce = nonce_of(frame);
     let body = frame.body.as_slice();
-    let covered = authenticated(frame, body);
-    unseal(key, &nonce, covered.as_slice(), body, &mic, steps)
+    let covered = covered(frame, body);
+    let authenticated = covered.authenticated.as_slice();
+    match unseal(key, &nonce, authenticated, covered.message, &mic, steps) {
+        Ok(message) => Ok(body_of(frame, message.as_slice(), body)),
+        Err(error) => Err(error),
+    }
 }
 
-/// The same at level 2.
-#[tactic(auto, using(crate::proofs::Opening::encrypted_empty))]
-fn open_two<L: Ledger>(
-    frame: &Gpdf,
-    mic: [u8; 4],
-    key: &Key,
-    steps: &mut Steps<L>,
-) -> Result<Octets, BadTag>
-    requires level { level_of frame.now ≡ 2 }
-    requires room { length frame.now.body ≤ 104 }
-    ensures value { let command = in_clear key.now.0 frame.now in
-        OkIff result (mic ≡ (protected key.now.0 frame.now command).1) command }
-    ensures size { IfOk result (λ command. length command ≡ length frame.now.body) }
-    ensures cost { steps.new ≡ steps.old + frame_calls frame.now frame.now.body }
+/// What a MIC covers of a frame and the octets of its command: those that it authenticates in clear, and those that are
+/// encrypted too.
+#[derive(Drop)]
+struct Coverage<'a> {
+    authenticated: Octets,
+    message: &'a [u8],
+}
+
+/// At level 3 the header in clear and the command encrypted, at level 2 both in clear.
+fn covered<'a>(frame: &Gpdf, command: &'a [u8]) -> Coverage<'a>
+    requires level { level_of frame.now ≤ 3 }
+    requires room { length command.now ≤ 104 }
+    ensures authenticated { result.authenticated ≡ words.authenticated frame.now command.now }
+    ensures message { result.message.now ≡ message frame.now command.now }
 {
-    let nonce = nonce_of(frame);
-    let covered = authenticated(frame, frame.body.as_slice());
-    match unseal(key, &nonce, covered.as_slice(), &[], &mic, steps) {
-        Ok(_) => Ok(frame.body.copy()),
-        Err(error) => Err(error),
+    let mut authenticated = header(frame);
+    if frame.level() == 3 {
+        return Coverage {
+            authenticated,
+            message: command,
+        };
+    }
+    match add(&mut authenticated, command) {
+        Ok(()) => Coverage {
+            authenticated,
+            message: &[],
+        },
+        Err(_) => unreachable!(),
+    }
+}
+
+/// The other side of the command octets: at level 3 what the cipher made of them, and at level 2 themselves.
+fn body_of(frame: &Gpdf, ciphered: &[u8], command: &[u8]) -> Octets
+    requires ciphered { length ciphered.now ≤ 127 }
+    requires command { length command.now ≤ 127 }
+    ensures { result ≡ (if level_of frame.now == 3 then ciphered.now else command.now) }
+{
+    let three = frame.level() == 3;
+    match Octets::of(if three { ciphered } else { command }) {
+        Some(body) => body,
+        None => unreachable!(),
     }
 }
 
@@ -204,33 +223,3 @@ fn is_to_device(ext: Option<Ext>) -> bool
         None => false,
     }
 }
-
-/// What is authenticated of a frame with a command.
-fn authenticated(frame: &Gpdf, command: &[u8]) -> Octets
-    requires level { level_of frame.now ≤ 3 }
-    requires room { length command.now ≤ 104 }
-    ensures { result ≡ words.authenticated frame.now command.now }
-{
-    let mut out = header(frame);
-    if frame.level() == 3 {
-        return out;
-    }
-    match add(&mut out, command) {
-        Some(()) => out,
-        None => unreachable!(),
-    }
-}
-
-/// What a slice of octets holds is octets: it does nothing, and tells it to what is proved.
-fn are_octets(octets: &[u8])
-    ensures { IsOctets octets.now }
-{}
-
-/// Each field fits its octets: it does nothing, and tells it to what is proved.
-fn fits(seq: u8, pan: u16, dest: u16, src: Option<Src>, counter: Option<u32>)
-    ensures seq { seq < 2 ^ 8 }
-    ensures pan { pan < 2 ^ 16 }
-    ensures dest { dest < 2 ^ 16 }
-    ensures src { IfSome src (λ source. source.0 < 2 ^ 32) }
-    ensures counter { IfSome counter (λ number. number < 2 ^ 32) }
-{}

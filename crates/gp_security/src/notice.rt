@@ -12,7 +12,7 @@ use gp_cluster::options::NoticeOptions;
 use gp_frames::{Ext, Gpdf};
 
 /// The secured frame that a Commissioning Notification reports, as it was received where security processing failed
-/// (Zigbee PRO Green Power, A.3.3.4.3): control 8C, level and RxAfterTx of the options, from the device, the SecurityKey
+/// (Zigbee PRO Green Power, A.3.3.4): control 8C, level and RxAfterTx of the options, from the device, the SecurityKey
 /// bit by the key type, and the command with its payload as its body. `None` comes exactly where bit 9 of the options is
 /// clear, the level is below 2, or the payload has more than 103 octets. It takes no memory.
 pub fn from_notice(notice: &CommissioningNotice) -> Option<Gpdf>
@@ -74,7 +74,7 @@ fn body_of(notice: &CommissioningNotice) -> Octets
     let mut body = Octets::new();
     body.push(notice.command);
     match add(&mut body, payload_of(notice)) {
-        Some(()) => body,
-        None => unreachable!(),
+        Ok(()) => body,
+        Err(_) => unreachable!(),
     }
 }

@@ -1,6 +1,6 @@
 //! Keys of devices, wrapped under a link key.
 
-ghost use Rattle.std.specs.Prelude.{◌≡◌, ◌≢◌, ◌+◌, List, ℕ, length, IfOk, OnErr};
+ghost use Rattle.std.specs.Prelude.{◌≡◌, ◌≢◌, ◌+◌, List, ℕ, IfOk, OnErr};
 ghost use Rattle.gp_security.specs.Wrapping as words;
 ghost use Rattle.gp_security.specs.Wrapping.{wrap};
 
@@ -46,7 +46,7 @@ pub fn wrap_key<L: Ledger>(
     let source = source.0.to_le_bytes();
     let sealed = seal(link, &nonce, &source, &key.0, TagSize::Four, steps);
     Wrapped {
-        key: key_of(sealed.cipher.as_slice()),
+        key: Key::of(sealed.cipher.as_slice()),
         mic: mic_of(sealed.tag.as_slice()),
     }
 }
@@ -85,7 +85,7 @@ fn unwrap<L: Ledger>(
     let nonce = wrap_nonce(source, way);
     let source = source.0.to_le_bytes();
     match unseal(link, &nonce, &source, &wrapped.key.0, &wrapped.mic, steps) {
-        Ok(octets) => Ok(key_of(octets.as_slice())),
+        Ok(octets) => Ok(Key::of(octets.as_slice())),
         Err(error) => Err(error),
     }
 }
@@ -98,14 +98,4 @@ fn wrap_nonce(source: Src, way: Way) -> [u8; 13]
         Way::FromDevice => nonce(source.0, source.0, source.0),
         Way::ToDevice { counter } => nonce(0, source.0, counter),
     }
-}
-
-/// Sixteen octets as a key.
-fn key_of(octets: &[u8]) -> Key
-    requires { length octets.now ≡ 16 }
-    ensures { result.0 ≡ octets.now }
-{
-    let mut key = [0; 16];
-    key.copy_from_slice(octets);
-    Key(key)
 }
