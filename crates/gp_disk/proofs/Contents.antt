@@ -7,9 +7,10 @@ use Rattle.std.proofs.lemmas.List.Folds.{list_all-append}
 use Rattle.gp_disk.specs.declared.log.Step.{Step}
 use Rattle.gp_disk.specs.declared.log.Step.TheVariants.{Write, Zero, Sync}
 use Rattle.gp_disk.specs.Disk.{put}
-use Rattle.gp_disk.specs.History.{Range, Done, Wrote, Synced, Held, at_rest, happen, after_all}
-use Rattle.gp_disk.specs.Redone.{redone, ranges_of, struck}
-use Rattle.gp_disk.specs.Step.{written, zeroed, events, is_write, is_within}
+use Rattle.gp_disk.specs.History.{Range, Done, Wrote, Synced, Held, at_rest, happen, after_all, written, zeroed}
+use Rattle.gp_disk.specs.Crash.{struck}
+use Rattle.gp_disk.specs.Redone.{redone, ranges_of}
+use Rattle.gp_disk.specs.Step.{events, is_write, is_within}
 use Rattle.gp_disk.specs.Traced.{AllTraced}
 use Rattle.gp_disk.proofs.Histories.{after_all-append, AllTraced-wrote, AllTraced-rest}
 use Rattle.gp_disk.proofs.Ranges.{Outside-put}

@@ -7,7 +7,8 @@ use Rattle.gp_disk.specs.declared.log.Step.TheVariants.{Write, Zero, Sync}
 use Rattle.gp_disk.specs.Disk.{put}
 use Rattle.gp_disk.specs.History.{Done, Wrote, Synced, Held, happen, after_all}
 use Rattle.gp_disk.specs.Step.{octets_of, events}
-use Rattle.gp_disk.specs.Redone.{redone, ranges_of, struck}
+use Rattle.gp_disk.specs.Crash.{struck}
+use Rattle.gp_disk.specs.Redone.{redone, ranges_of}
 
 pub redone-write : (at count stored : ℕ) (octets image : List ℕ) → stored ≤ count → redone image (events (Write at count stored ∷ []) octets) ≡ put at (take stored octets) image
 unfolding redone events

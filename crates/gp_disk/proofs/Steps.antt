@@ -3,8 +3,8 @@ use Rattle.std.proofs.Common.{◌≡◌, ℕ, suc, ◌+◌, ◌≤◌, List, [],
 use Rattle.std.proofs.lemmas.List.{append-nil, take-append-le, drop-append-le, take_all, drop_all}
 use Rattle.gp_disk.specs.declared.log.Step.{Step}
 use Rattle.gp_disk.specs.declared.log.Step.TheVariants.{Write, Zero, Sync}
-use Rattle.gp_disk.specs.History.{Wrote, Synced}
-use Rattle.gp_disk.specs.Step.{written, zeroed, octets_of, events}
+use Rattle.gp_disk.specs.History.{Wrote, Synced, written, zeroed}
+use Rattle.gp_disk.specs.Step.{octets_of, events}
 
 pub octets_of-append : (xs ys : List Step) → octets_of (xs ++ ys) ≡ octets_of xs + octets_of ys
 unfolding octets_of

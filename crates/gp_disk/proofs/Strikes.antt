@@ -8,7 +8,8 @@ use Rattle.gp_disk.specs.declared.log.Step.{Step}
 use Rattle.gp_disk.specs.declared.log.Step.TheVariants.{Write, Zero, Sync}
 use Rattle.gp_disk.specs.Disk.{part, put}
 use Rattle.gp_disk.specs.History.{Range, Done, Held, at_rest, after_all, Replaced, MayLeave}
-use Rattle.gp_disk.specs.Redone.{redone, ranges_of, filled, struck}
+use Rattle.gp_disk.specs.Crash.{filled, struck}
+use Rattle.gp_disk.specs.Redone.{redone, ranges_of}
 use Rattle.gp_disk.specs.Step.{events, is_write, is_within}
 use Rattle.gp_disk.proofs.Contents.{after_all-settled, base-writes, pending-writes}
 use Rattle.gp_disk.proofs.Ranges.{Outside-put}

@@ -1,4 +1,5 @@
--- What a disk in memory holds: its past, and how much of its room is used.
+-- How a disk in memory keeps its past, and how much of its room is used. A reader needn't believe this file: the clauses
+-- on the calls of a disk in memory pin what it gives.
 use Rattle.std.specs.Prelude.{ℕ, ◌++◌, length}
 use Rattle.gp_disk.specs.declared.content.Content.{Content}
 use Rattle.gp_disk.specs.History.{Past}

@@ -1,4 +1,4 @@
--- What the counts that a disk keeps tell.
+-- How a disk keeps the counts of its calls. A reader needn't believe this file: the clauses on the calls pin what it gives.
 use Rattle.std.specs.Prelude.{ℕ}
 use Rattle.gp_disk.specs.declared.counts.Counts.{Counts}
 use Rattle.gp_disk.specs.Disk.{Tally}

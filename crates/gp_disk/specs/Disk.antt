@@ -1,6 +1,7 @@
 -- A disk: what a read gives, what a crash may leave, and the counts of its calls.
 use Rattle.std.specs.Prelude.{◌≡◌, ℕ, ◌+◌, ◌⊎◌, Bool, true, false, List, ◌++◌, length, take, drop, Option, Some}
 use Rattle.gp_base.specs.Outside.{one_more}
+use Rattle.gp_disk.specs.Fuse.{Fuse}
 
 -- size: in octets
 -- begins: how many `begin` calls there were; before: how many device calls stood between the last two of them
@@ -17,6 +18,19 @@ pub record Tally : Type 0 where
   pub octets : ℕ
   pub pending : Bool
   pub unsettled : Bool
+
+-- what a disk tells at one moment: what a read gives; what a crash now may leave; what one at some moment since the last
+-- `begin` might have left; the counts of its calls and of its faults; and the failures to come
+pub record Moment : Type 1 where
+  pub image : Option (List ℕ)
+  pub may_leave : List ℕ → Type 0
+  pub left : List ℕ → Type 0
+  pub tally : Tally
+  pub faults : ℕ
+  pub fuse : Fuse
+
+abbrev pub moment : {D : Type 0} → (D → Option (List ℕ)) → (D → List ℕ → Type 0) → (D → List ℕ → Type 0) → (D → Tally) → (D → ℕ) → (D → Fuse) → D → Moment
+moment image may_leave left tally faults fuse disk = record { image = image disk; may_leave = may_leave disk; left = left disk; tally = tally disk; faults = faults disk; fuse = fuse disk }
 
 abbrev pub after_begin : Tally → Tally
 after_begin t = record t { begins = one_more t.begins; before = t.calls; calls = 0; writes = 0; octets = 0; unsettled = t.pending }

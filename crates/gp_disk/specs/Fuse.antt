@@ -1,10 +1,19 @@
 -- What a disk tells of its failures to come.
 use Rattle.std.specs.Prelude.{◌≡◌, ℕ, ◌-◌, Bool, true, false, nat_le, if◌then◌else◌, ⊤}
 use Rattle.gp_base.specs.Outside.{one_more}
-use Rattle.gp_disk.specs.declared.arming.Ending.{Ending}
-use Rattle.gp_disk.specs.declared.arming.Ending.TheVariants.{Stop, Fault}
-use Rattle.gp_disk.specs.declared.arming.Arming.{Arming}
-use Rattle.gp_disk.specs.declared.arming.Arming.TheVariants.{Unarmed, Waits, Due, Spent}
+
+-- what comes at the armed call: the disk stops, and each call fails until a crash; or that one call fails
+pub data Ending : Type 0 where
+  Stop : Ending
+  Fault : Ending
+
+-- There is none; it waits for the `begin` of this number, counted from 1, and then lets so many calls through; it is due,
+-- and lets so many more through; or that call has come, and the next `begin` or crash ends the arming.
+pub data Arming : Type 0 where
+  Unarmed : Arming
+  Waits : ℕ → ℕ → Ending → Arming
+  Due : ℕ → Ending → Arming
+  Spent : Arming
 
 -- a disk that tells nothing; one whose calls go through but for its arming; one whose calls fail until a crash
 pub data Fuse : Type 0 where

@@ -1,6 +1,7 @@
 -- What has happened to a disk, and what a crash then may leave of it.
-use Rattle.std.specs.Prelude.{◌≡◌, ℕ, zero, suc, ◌⊎◌, List, [], ◌∷◌, ◌++◌, length}
-use Rattle.gp_disk.specs.Disk.{put, Outside}
+use Rattle.std.specs.Prelude.{◌≡◌, ℕ, zero, suc, ◌⊎◌, List, [], ◌∷◌, ◌++◌, length, take, replicate}
+use Rattle.gp_disk.specs.Disk.{Tally, put, Outside}
+use Rattle.gp_disk.specs.Fuse.{Fuse}
 
 -- a range that was written: its place, the octets that were to stand there, and the first of them, which a read
 -- gives there (all of them where the write was good)
@@ -8,6 +9,13 @@ pub record Range : Type 0 where
   pub at : ℕ
   pub octets : List ℕ
   pub kept : List ℕ
+
+-- a range of which so many octets were stored
+abbrev pub written : ℕ → List ℕ → ℕ → Range
+written at octets stored = record { at = at; octets = octets; kept = take stored octets }
+
+abbrev pub zeroed : ℕ → ℕ → ℕ → Range
+zeroed at count stored = record { at = at; octets = replicate count 0; kept = replicate stored 0 }
 
 -- what changes a disk: a write, good or failed, and a good sync
 pub data Done : Type 0 where
@@ -64,3 +72,11 @@ PastLeft past c = LeftSince past.begun (at_rest past.origin) past.history c
 -- one thing more has happened
 abbrev pub lived : Past → Done → Past
 lived past x = record past { history = past.history ++ x ∷ [] }
+
+-- what a disk in memory keeps: what a read gives, its past, its counts of calls and of faults, and the failures to come
+pub record Kept : Type 0 where
+  pub image : List ℕ
+  pub past : Past
+  pub tally : Tally
+  pub faults : ℕ
+  pub fuse : Fuse

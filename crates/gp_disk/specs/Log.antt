@@ -1,4 +1,5 @@
--- What a log tells.
+-- How a log keeps a history. A reader needn't believe this file: the clauses on the calls of a disk in memory pin what it
+-- gives.
 use Rattle.std.specs.Prelude.{List}
 use Rattle.gp_disk.specs.declared.log.Log.{Log}
 use Rattle.gp_disk.specs.History.{Done}

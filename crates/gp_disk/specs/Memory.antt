@@ -1,37 +1,36 @@
--- What a disk in memory is to those who use it.
-use Rattle.std.specs.Prelude.{◌≡◌, ℕ, List, length, Option, Some, unwrap_or}
-use mathlib.Core.Path.{subst, ap, ◌∙◌, sym}
+-- What a disk in memory tells.
+use Rattle.std.specs.Prelude.{◌≡◌, ℕ, List, Option, Some}
 use Rattle.gp_disk.specs.declared.memory.MemoryDisk.{MemoryDisk}
-use Rattle.gp_disk.specs.Content.{past_of}
-use Rattle.gp_disk.specs.Counts.{tally_of}
-use Rattle.gp_disk.specs.Disk.{Tally, Same}
+use Rattle.gp_disk.specs.Disk.{Tally, Moment, moment, Same}
 use Rattle.gp_disk.specs.Fuse.{Fuse}
-use Rattle.gp_disk.specs.History.{Held, held_after, at_rest, MayLeave, PastLeft}
-use Rattle.gp_disk.specs.Traced.{rest_may_be_left, LeftSince-now}
-use Rattle.gp_disk.specs.Trigger.{fuse_of}
+use Rattle.gp_disk.specs.History.{Held, held_after, MayLeave, PastLeft}
+use Rattle.gp_disk.specs.Kept.{kept_of}
 
 abbrev pub memory_image : MemoryDisk → Option (List ℕ)
-memory_image disk = Some disk.content.image.items
+memory_image disk = Some (kept_of disk).image
 
 -- what the last good sync or crash left, or the zeros of a new disk; the ranges written since, in order; and what a
 -- read gives
 abbrev pub memory_held : MemoryDisk → Held
-memory_held disk = held_after (past_of disk.content)
+memory_held disk = held_after (kept_of disk).past
 
 abbrev pub memory_may_leave : MemoryDisk → List ℕ → Type 0
 memory_may_leave disk c = MayLeave (memory_held disk) c
 
 abbrev pub memory_left : MemoryDisk → List ℕ → Type 0
-memory_left disk c = PastLeft (past_of disk.content) c
+memory_left disk c = PastLeft (kept_of disk).past c
 
 abbrev pub memory_tally : MemoryDisk → Tally
-memory_tally disk = tally_of (length disk.content.image.items) disk.counts
+memory_tally disk = (kept_of disk).tally
 
 abbrev pub memory_faults : MemoryDisk → ℕ
-memory_faults disk = disk.trigger.faults
+memory_faults disk = (kept_of disk).faults
 
 abbrev pub memory_fuse : MemoryDisk → Fuse
-memory_fuse disk = fuse_of disk.trigger
+memory_fuse disk = (kept_of disk).fuse
+
+abbrev pub memory_moment : MemoryDisk → Moment
+memory_moment disk = moment memory_image memory_may_leave memory_left memory_tally memory_faults memory_fuse disk
 
 -- all but the fuse is the same
 pub record SameButFuse (old new : MemoryDisk) : Type 0 where
@@ -41,14 +40,3 @@ pub record SameButFuse (old new : MemoryDisk) : Type 0 where
   pub since : Same (memory_left old) (memory_left new)
   pub tally : memory_tally new ≡ memory_tally old
   pub faults : memory_faults new ≡ memory_faults old
-
--- what a read gives is one of the images that a crash now may leave
-pub memory_holds : (disk : MemoryDisk) (c : List ℕ) → memory_image disk ≡ Some c → memory_may_leave disk c
-memory_holds disk c is =
-    subst (λ (x : List ℕ). memory_may_leave disk x) (sym disk.content.reads ∙ ap (λ image. unwrap_or image c) is) (rest_may_be_left disk.content.origin.items (past_of disk.content).history disk.content.traced)
-
-pub memory_counts_now : (disk : MemoryDisk) (c : List ℕ) → memory_may_leave disk c → memory_left disk c
-memory_counts_now disk c now = LeftSince-now disk.content.begun (at_rest disk.content.origin.items) (past_of disk.content).history c now
-
-pub memory_fits : (disk : MemoryDisk) (c : List ℕ) → memory_image disk ≡ Some c → length c ≡ (memory_tally disk).size
-memory_fits disk c is = ap (λ image. length (unwrap_or image c)) (sym is)

@@ -1,15 +1,9 @@
--- How a history lies in memory: a list of steps, and the octets of its writes one after the other.
-use Rattle.std.specs.Prelude.{ℕ, ◌+◌, Bool, true, false, ◌&&◌, nat_le, List, [], ◌∷◌, take, drop, replicate}
+-- How a history lies in memory: a list of steps, and the octets of its writes one after the other. A reader needn't
+-- believe this file: the clauses on the calls of a disk in memory pin what it gives.
+use Rattle.std.specs.Prelude.{ℕ, ◌+◌, Bool, true, false, ◌&&◌, nat_le, List, [], ◌∷◌, take, drop}
 use Rattle.gp_disk.specs.declared.log.Step.{Step}
 use Rattle.gp_disk.specs.declared.log.Step.TheVariants.{Write, Zero, Sync}
-use Rattle.gp_disk.specs.History.{Range, Done, Wrote, Synced}
-
--- a range of which so many octets were stored
-abbrev pub written : ℕ → List ℕ → ℕ → Range
-written at octets stored = record { at = at; octets = octets; kept = take stored octets }
-
-abbrev pub zeroed : ℕ → ℕ → ℕ → Range
-zeroed at count stored = record { at = at; octets = replicate count 0; kept = replicate stored 0 }
+use Rattle.gp_disk.specs.History.{Done, Wrote, Synced, written, zeroed}
 
 -- how many octets these steps have
 unfoldable pub octets_of : List Step → ℕ

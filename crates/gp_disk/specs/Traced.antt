@@ -1,4 +1,5 @@
--- Why what a read gives is one of the images that a crash now may leave: each write changes its range alone.
+-- Why what a read gives is one of the images that a crash now may leave: each write changes its range alone. A reader
+-- needn't believe this file, which is proved.
 use Rattle.std.specs.Prelude.{ℕ, zero, suc, List, [], ◌∷◌, ◌++◌, length, refl}
 use Rattle.std.specs.Coded.{×_prop, Unit-prop}
 use Rattle.std.proofs.Props.{props}

@@ -1,12 +1,13 @@
 //! What a disk in memory holds, and what a crash at some moment since its last `begin` might have left.
 
-ghost use Rattle.std.specs.Prelude.{◌≡◌, ◌+◌, ◌≤◌, ◌<◌, true, [], ◌∷◌, ◌++◌, length, take, replicate, IfOk, vec_capacity};
+ghost use Rattle.std.specs.Prelude.{◌≡◌, ◌+◌, ◌≤◌, ◌<◌, true, [], ◌++◌, length, take, replicate, IfOk, vec_capacity};
 ghost use Rattle.std.specs.List.{list_all};
-ghost use Rattle.gp_disk.specs.Disk.{put, part};
-ghost use Rattle.gp_disk.specs.History.{Wrote, Synced, at_rest, after_all, held_after, lived, MayLeave};
+ghost use Rattle.gp_disk.specs.Disk.{put};
+ghost use Rattle.gp_disk.specs.History.{Wrote, Synced, at_rest, after_all, held_after, lived, MayLeave, written, zeroed};
 ghost use Rattle.gp_disk.specs.Log.{log_events};
-ghost use Rattle.gp_disk.specs.Redone.{redone, ranges_of, struck};
-ghost use Rattle.gp_disk.specs.Step.{is_within, is_write, written, zeroed};
+ghost use Rattle.gp_disk.specs.Crash.{struck};
+ghost use Rattle.gp_disk.specs.Redone.{redone, ranges_of};
+ghost use Rattle.gp_disk.specs.Step.{is_within, is_write};
 ghost use Rattle.gp_disk.specs.Traced.{AllTraced, AllTraced-prop};
 
 use crate::log::Log;

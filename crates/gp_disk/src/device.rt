@@ -1,9 +1,9 @@
 //! A disk as the store sees it.
 
-ghost use Rattle.std.specs.Prelude.{◌≡◌, ◌+◌, ◌^◌, ◌<◌, ◌≤◌, ℕ, Bool, false, List, length, replicate, Option, Some, None, IfSome, OnOk, OnErr, is_ok, is_some, option_map};
-ghost use Rattle.gp_base.specs.Outside.{Rose};
-ghost use Rattle.gp_disk.specs.Disk.{Tally, after_begin, after_read, after_write, after_sync, after_failed_sync, part, put, Same, Follows, Grows, Only};
-ghost use Rattle.gp_disk.specs.Fuse.{Fuse, lit, burnt, Foretold};
+ghost use Rattle.std.specs.Prelude.{◌≡◌, ◌+◌, ◌^◌, ◌<◌, ◌≤◌, ℕ, false, List, length, replicate, Option, Some};
+ghost use Rattle.gp_disk.specs.Calls.{Begins, Reads, Writes, Syncs};
+ghost use Rattle.gp_disk.specs.Disk.{Tally, moment};
+ghost use Rattle.gp_disk.specs.Fuse.{Fuse};
 
 use gp_base::Failed;
 
@@ -41,27 +41,14 @@ pub trait Disk {
 
     /// Begins a run of calls. It can't fail.
     fn begin(&mut self)
-        ensures image { image self.new ≡ image self.old }
-        ensures now { Same (may_leave self.old) (may_leave self.new) }
-        ensures since { Same (may_leave self.new) (left self.new) }
-        ensures tally { tally self.new ≡ after_begin (tally self.old) }
-        ensures faults { faults self.new ≡ faults self.old }
-        ensures fuse { fuse self.new ≡ lit (fuse self.old) };
+        ensures { Begins (moment image may_leave left tally faults fuse self.old) (moment image may_leave left tally faults fuse self.new) };
 
     /// Reads the octets from a place on, as many as the buffer has. `Failed` comes only where the count of faults rises
-    /// in this call, and then the buffer may hold any octets.
+    /// in this call, and then the buffer is as it was.
     fn read(&mut self, at: u64, into: &mut [u8]) -> Result<(), Failed>
         requires range { at + length into.old ≤ (tally self.old).size }
-        ensures octets { OnOk result (IfSome (image self.old) (λ image. into.new ≡ part at (length into.old) image)) }
-        ensures image { image self.new ≡ image self.old }
-        ensures now { Same (may_leave self.old) (may_leave self.new) }
-        ensures since { Same (left self.old) (left self.new) }
-        ensures tally { tally self.new ≡ after_read (tally self.old) }
-        ensures good { OnOk result (faults self.new ≡ faults self.old) }
-        ensures failed { OnErr result (Rose (faults self.old) (faults self.new)) }
-        ensures kept { faults self.old ≤ faults self.new }
-        ensures fuse { fuse self.new ≡ burnt 1 (fuse self.old) }
-        ensures foretold { Foretold 1 (fuse self.old) (is_ok result) };
+        ensures { Reads at into.old into.new result
+            (moment image may_leave left tally faults fuse self.old) (moment image may_leave left tally faults fuse self.new) };
 
     /// Writes octets from a place on. `Failed` comes only where the count of faults rises in this call, and then a read
     /// may give any octets in the range.
@@ -70,16 +57,8 @@ pub trait Disk {
         requires calls { (tally self.old).writes < 16 }
         requires room { (tally self.old).octets + length octets.now ≤ 262400 }
         requires settled { (tally self.old).unsettled ≡ false }
-        ensures written { OnOk result (image self.new ≡ option_map (put at octets.now) (image self.old)) }
-        ensures told { is_some (image self.new) ≡ is_some (image self.old) }
-        ensures now { Follows at (length octets.now) (may_leave self.old) (may_leave self.new) }
-        ensures since { Grows (left self.old) (left self.new) (may_leave self.new) }
-        ensures tally { tally self.new ≡ after_write (length octets.now) (tally self.old) }
-        ensures good { OnOk result (faults self.new ≡ faults self.old) }
-        ensures failed { OnErr result (Rose (faults self.old) (faults self.new)) }
-        ensures kept { faults self.old ≤ faults self.new }
-        ensures fuse { fuse self.new ≡ burnt 1 (fuse self.old) }
-        ensures foretold { Foretold 1 (fuse self.old) (is_ok result) };
+        ensures { Writes at (length octets.now) octets.now (length octets.now) result
+            (moment image may_leave left tally faults fuse self.old) (moment image may_leave left tally faults fuse self.new) };
 
     /// Writes so many zeros from a place on. `Failed` comes only where the count of faults rises in this call, and then a
     /// read may give any octets in the range.
@@ -87,32 +66,15 @@ pub trait Disk {
         requires range { at + count ≤ (tally self.old).size }
         requires calls { (tally self.old).writes < 16 }
         requires settled { (tally self.old).unsettled ≡ false }
-        ensures written { OnOk result (image self.new ≡ option_map (put at (replicate count 0)) (image self.old)) }
-        ensures told { is_some (image self.new) ≡ is_some (image self.old) }
-        ensures now { Follows at count (may_leave self.old) (may_leave self.new) }
-        ensures since { Grows (left self.old) (left self.new) (may_leave self.new) }
-        ensures tally { tally self.new ≡ after_write 0 (tally self.old) }
-        ensures good { OnOk result (faults self.new ≡ faults self.old) }
-        ensures failed { OnErr result (Rose (faults self.old) (faults self.new)) }
-        ensures kept { faults self.old ≤ faults self.new }
-        ensures fuse { fuse self.new ≡ burnt 1 (fuse self.old) }
-        ensures foretold { Foretold 1 (fuse self.old) (is_ok result) };
+        ensures { Writes at count (replicate count 0) 0 result
+            (moment image may_leave left tally faults fuse self.old) (moment image may_leave left tally faults fuse self.new) };
 
     /// Makes what was written certain. `Failed` comes only where the count of faults rises in this call, and then the
     /// `sync` has done nothing.
     fn sync(&mut self) -> Result<(), Failed>
         requires { (tally self.old).writes < 16 }
-        ensures image { image self.new ≡ image self.old }
-        ensures certain { OnOk result (Only (image self.new) (may_leave self.new)) }
-        ensures now { OnErr result (Same (may_leave self.old) (may_leave self.new)) }
-        ensures since { Grows (left self.old) (left self.new) (may_leave self.new) }
-        ensures tally { OnOk result (tally self.new ≡ after_sync (tally self.old)) }
-        ensures tally_failed { OnErr result (tally self.new ≡ after_failed_sync (tally self.old)) }
-        ensures good { OnOk result (faults self.new ≡ faults self.old) }
-        ensures failed { OnErr result (Rose (faults self.old) (faults self.new)) }
-        ensures kept { faults self.old ≤ faults self.new }
-        ensures fuse { fuse self.new ≡ burnt 1 (fuse self.old) }
-        ensures foretold { Foretold 1 (fuse self.old) (is_ok result) };
+        ensures { Syncs result
+            (moment image may_leave left tally faults fuse self.old) (moment image may_leave left tally faults fuse self.new) };
 
     /// What a read gives is one of the images that a crash now may leave.
     ghost holds: { (disk : Self) (c : List ℕ) → image disk ≡ Some c → may_leave disk c };

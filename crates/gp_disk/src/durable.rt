@@ -1,9 +1,8 @@
 //! Writes that are certain once they have succeeded.
 
-ghost use Rattle.std.specs.Prelude.{◌≡◌, ◌+◌, ◌≤◌, false, length, replicate, OnOk, OnErr, is_ok, is_some, option_map};
-ghost use Rattle.gp_base.specs.Outside.{Rose};
-ghost use Rattle.gp_disk.specs.Disk.{after_write, after_sync, put, IsQuiet, SameRun, IsCutShort, Torn, GrowsTorn};
-ghost use Rattle.gp_disk.specs.Fuse.{burnt, Foretold};
+ghost use Rattle.std.specs.Prelude.{◌≡◌, ◌+◌, ◌≤◌, false, length, replicate};
+ghost use Rattle.gp_disk.specs.Disk.{IsQuiet};
+ghost use Rattle.gp_disk.specs.Durable.{MakesCertain, seen};
 
 use crate::Disk;
 use gp_base::Failed;
@@ -19,19 +18,7 @@ pub fn stable<D: Disk>(disk: &mut D, at: u64, octets: &[u8]) -> Result<(), Faile
     requires room { (D.tally disk.old).octets + length octets.now ≤ 262400 }
     requires settled { (D.tally disk.old).unsettled ≡ false }
     requires quiet { IsQuiet (D.tally disk.old) (D.image disk.old) (D.may_leave disk.old) }
-    ensures written { OnOk result (D.image disk.new ≡ option_map (put at octets.now) (D.image disk.old)) }
-    ensures quiet { OnOk result (IsQuiet (D.tally disk.new) (D.image disk.new) (D.may_leave disk.new)) }
-    ensures told { is_some (D.image disk.new) ≡ is_some (D.image disk.old) }
-    ensures now { OnErr result ((c : _) → D.may_leave disk.new c → Torn at (length octets.now) (D.image disk.old) c) }
-    ensures since { GrowsTorn at (length octets.now) (D.image disk.old) (D.left disk.old) (D.left disk.new) }
-    ensures run { SameRun (D.tally disk.old) (D.tally disk.new) }
-    ensures tally { OnOk result (D.tally disk.new ≡ after_sync (after_write (length octets.now) (D.tally disk.old))) }
-    ensures tally_failed { OnErr result (IsCutShort (length octets.now) (D.tally disk.old) (D.tally disk.new)) }
-    ensures good { OnOk result (D.faults disk.new ≡ D.faults disk.old) }
-    ensures failed { OnErr result (Rose (D.faults disk.old) (D.faults disk.new)) }
-    ensures kept { D.faults disk.old ≤ D.faults disk.new }
-    ensures fuse { D.fuse disk.new ≡ burnt 2 (D.fuse disk.old) }
-    ensures foretold { Foretold 2 (D.fuse disk.old) (is_ok result) }
+    ensures { MakesCertain at (length octets.now) octets.now (length octets.now) result (seen D.Disk disk.old) (seen D.Disk disk.new) }
 {
     disk.write_at(at, octets)?;
     disk.sync()
@@ -44,19 +31,7 @@ pub fn stable_zero<D: Disk>(disk: &mut D, at: u64, count: u64) -> Result<(), Fai
     requires calls { (D.tally disk.old).writes + 2 ≤ 16 }
     requires settled { (D.tally disk.old).unsettled ≡ false }
     requires quiet { IsQuiet (D.tally disk.old) (D.image disk.old) (D.may_leave disk.old) }
-    ensures written { OnOk result (D.image disk.new ≡ option_map (put at (replicate count 0)) (D.image disk.old)) }
-    ensures quiet { OnOk result (IsQuiet (D.tally disk.new) (D.image disk.new) (D.may_leave disk.new)) }
-    ensures told { is_some (D.image disk.new) ≡ is_some (D.image disk.old) }
-    ensures now { OnErr result ((c : _) → D.may_leave disk.new c → Torn at count (D.image disk.old) c) }
-    ensures since { GrowsTorn at count (D.image disk.old) (D.left disk.old) (D.left disk.new) }
-    ensures run { SameRun (D.tally disk.old) (D.tally disk.new) }
-    ensures tally { OnOk result (D.tally disk.new ≡ after_sync (after_write 0 (D.tally disk.old))) }
-    ensures tally_failed { OnErr result (IsCutShort 0 (D.tally disk.old) (D.tally disk.new)) }
-    ensures good { OnOk result (D.faults disk.new ≡ D.faults disk.old) }
-    ensures failed { OnErr result (Rose (D.faults disk.old) (D.faults disk.new)) }
-    ensures kept { D.faults disk.old ≤ D.faults disk.new }
-    ensures fuse { D.fuse disk.new ≡ burnt 2 (D.fuse disk.old) }
-    ensures foretold { Foretold 2 (D.fuse disk.old) (is_ok result) }
+    ensures { MakesCertain at count (replicate count 0) 0 result (seen D.Disk disk.old) (seen D.Disk disk.new) }
 {
     disk.zero(at, count)?;
     disk.sync()

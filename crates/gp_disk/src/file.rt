@@ -1,6 +1,6 @@
 //! A disk over a file.
 
-ghost use Rattle.std.specs.Prelude.{◌≡◌, ◌+◌, ◌≤◌, ◌<◌, false, IfOk, OnOk, OnErr};
+ghost use Rattle.std.specs.Prelude.{◌≡◌, ◌+◌, ◌≤◌, ◌<◌, false, IfOk, OnOk, OnErr, is_ok};
 ghost use Rattle.std.proofs.Common.{lit<};
 ghost use Rattle.gp_base.specs.Outside.{one_more};
 ghost use Rattle.gp_disk.specs.Counts.{tally_of};
@@ -22,7 +22,7 @@ const SIZE: u64 = 2_097_152;
 /// gives or keeps. Its count of faults rises by one at each error.
 ///
 /// The file is opened, or created, at the first call of `read`, `write_at`, `zero` or `sync`. Octets past its end
-/// read as zeros.
+/// read as zeros. A read takes no memory, and as much of the stack as its buffer is long.
 #[derive(Drop)]
 pub struct FileDisk<R: Files + Drop> {
     rt: R,
@@ -116,6 +116,7 @@ impl<R: Files + Drop> Disk for FileDisk<R> {
 
 /// Raises a count of faults where a call failed.
 fn count_fault(faults: &mut u64, answer: io::Result<()>) -> Result<(), Failed>
+    ensures same { is_ok result ≡ is_ok answer }
     ensures good { OnOk result (faults.new ≡ faults.old) }
     ensures failed { OnErr result (faults.new ≡ one_more faults.old) }
     ensures kept { faults.old ≤ faults.new }
@@ -145,21 +146,42 @@ fn opened<'a, R: Files>(
     }
 }
 
-/// Reads octets from a place on. Those past the file's end are zeros.
+/// Reads octets from a place on, all of them or none. Those past the file's end are zeros.
 fn read_file<R: Files>(
     rt: &R,
     path: &str,
     file: &mut Option<R::File>,
     at: u64,
     into: &mut [u8],
-) -> io::Result<()> {
+) -> io::Result<()>
+    ensures { OnErr result (into.new ≡ into.old) }
+{
     let file = opened(rt, path, file)?;
     file.seek(SeekFrom::Start(at))?;
+    read_on(file, into)
+}
+
+/// Reads all of a buffer or nothing of it: no piece is put there before those behind it are read.
+fn read_on<F: Read>(file: &mut F, into: &mut [u8]) -> io::Result<()>
+    ensures { OnErr result (into.new ≡ into.old) }
+{
+    if into.is_empty() {
+        return Ok(());
+    }
+    let count = into.len().min(4096);
+    let mut piece = [0u8; 4096];
+    fill(file, &mut piece[..count])?;
+    read_on(file, &mut into[count..])?;
+    into[..count].copy_from_slice(&piece[..count]);
+    Ok(())
+}
+
+/// Reads into a buffer of zeros, of which those past the file's end stay.
+fn fill<F: Read>(file: &mut F, piece: &mut [u8]) -> io::Result<()> {
     let mut place = 0;
-    while place < into.len() {
-        let count = file.read(&mut into[place..])?;
+    while place < piece.len() {
+        let count = file.read(&mut piece[place..])?;
         if count == 0 {
-            into[place..].fill(0);
             return Ok(());
         }
         place += count;

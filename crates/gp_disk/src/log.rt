@@ -2,8 +2,8 @@
 
 ghost use Rattle.std.specs.Prelude.{◌≡◌, ◌+◌, ◌≤◌, ◌<◌, [], ◌∷◌, ◌++◌, length, IfOk, vec_capacity};
 ghost use Rattle.gp_disk.specs.declared.log.Step.TheVariants.{Write, Zero, Sync};
-ghost use Rattle.gp_disk.specs.History.{Wrote, Synced};
-ghost use Rattle.gp_disk.specs.Step.{octets_of, events, written, zeroed};
+ghost use Rattle.gp_disk.specs.History.{Wrote, Synced, written, zeroed};
+ghost use Rattle.gp_disk.specs.Step.{octets_of, events};
 
 use std::alloc::{AllocError, Global};
 

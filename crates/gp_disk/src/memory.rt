@@ -1,14 +1,11 @@
 //! A disk in memory, which can be made to stop, to fail and to crash.
 
-ghost use Rattle.std.specs.Prelude.{◌≡◌, ◌+◌, ◌/◌, ◌≤◌, ◌<◌, ◌^◌, ℕ, false, length, replicate, Some, IfOk, OnOk, OnErr, IfSome, is_ok, is_some, option_map, if◌then◌else◌};
-ghost use Rattle.gp_base.specs.Outside.{Rose, one_more};
-ghost use Rattle.gp_disk.specs.declared.arming.Arming.TheVariants.{Unarmed, Waits};
-ghost use Rattle.gp_disk.specs.declared.arming.Ending.TheVariants.{Stop, Fault};
-ghost use Rattle.gp_disk.specs.Disk.{after_begin, after_read, after_write, after_sync, after_failed_sync, part, put, Same, Follows, Grows, Only};
-ghost use Rattle.gp_disk.specs.History.{at_rest, happen, Wrote, Synced};
-ghost use Rattle.gp_disk.specs.Redone.{stored_of, struck};
-ghost use Rattle.gp_disk.specs.Step.{written, zeroed};
-ghost use Rattle.gp_disk.specs.Fuse.{lit, burnt, crashed, rearmed, deferred, is_due, has_stopped, Foretold, Running};
+ghost use Rattle.std.specs.Prelude.{◌≡◌, ◌+◌, ◌/◌, ◌≤◌, ◌<◌, ◌^◌, false, length, replicate, Some, IfOk, IfSome, is_ok, if◌then◌else◌};
+ghost use Rattle.gp_disk.specs.Calls.{Begins, Reads, Writes, Syncs};
+ghost use Rattle.gp_disk.specs.Disk.{part, Same};
+ghost use Rattle.gp_disk.specs.History.{at_rest, happen, Wrote, Synced, written, zeroed};
+ghost use Rattle.gp_disk.specs.Crash.{stored_of, struck};
+ghost use Rattle.gp_disk.specs.Fuse.{Stop, Fault, Unarmed, Waits, Running, crashed, rearmed, deferred, is_due, has_stopped};
 
 use crate::Disk;
 use crate::arming::Ending;
@@ -39,7 +36,8 @@ pub struct MemoryDisk {
 }
 
 impl Disk for MemoryDisk {
-    ghost use Rattle.gp_disk.specs.Memory.{memory_image, memory_held, memory_may_leave, memory_left, memory_tally, memory_faults, memory_fuse, memory_holds, memory_counts_now, memory_fits};
+    ghost use Rattle.gp_disk.specs.Memory.{memory_image, memory_held, memory_may_leave, memory_left, memory_tally, memory_faults, memory_fuse, memory_moment};
+    ghost use Rattle.gp_disk.specs.MemoryLaws.{memory_holds, memory_counts_now, memory_fits};
 
     ghost image = { memory_image };
 
@@ -66,13 +64,8 @@ impl Disk for MemoryDisk {
     }
 
     fn begin(&mut self)
+        ensures begins { Begins (memory_moment self.old) (memory_moment self.new) }
         ensures held { memory_held self.new ≡ memory_held self.old }
-        ensures image { memory_image self.new ≡ memory_image self.old }
-        ensures now { Same (memory_may_leave self.old) (memory_may_leave self.new) }
-        ensures since { Same (memory_may_leave self.new) (memory_left self.new) }
-        ensures tally { memory_tally self.new ≡ after_begin (memory_tally self.old) }
-        ensures faults { memory_faults self.new ≡ memory_faults self.old }
-        ensures fuse { memory_fuse self.new ≡ lit (memory_fuse self.old) }
     {
         self.content.begin();
         self.counts.begin();
@@ -81,18 +74,8 @@ impl Disk for MemoryDisk {
 
     fn read(&mut self, at: u64, into: &mut [u8]) -> Result<(), Failed>
         requires range { at + length into.old ≤ (memory_tally self.old).size }
+        ensures reads { Reads at into.old into.new result (memory_moment self.old) (memory_moment self.new) }
         ensures held { memory_held self.new ≡ memory_held self.old }
-        ensures exact { memory_faults self.new ≡ (if is_ok result then memory_faults self.old else one_more (memory_faults self.old)) }
-        ensures octets { OnOk result (IfSome (memory_image self.old) (λ image. into.new ≡ part at (length into.old) image)) }
-        ensures image { memory_image self.new ≡ memory_image self.old }
-        ensures now { Same (memory_may_leave self.old) (memory_may_leave self.new) }
-        ensures since { Same (memory_left self.old) (memory_left self.new) }
-        ensures tally { memory_tally self.new ≡ after_read (memory_tally self.old) }
-        ensures good { OnOk result (memory_faults self.new ≡ memory_faults self.old) }
-        ensures failed { OnErr result (Rose (memory_faults self.old) (memory_faults self.new)) }
-        ensures kept { memory_faults self.old ≤ memory_faults self.new }
-        ensures fuse { memory_fuse self.new ≡ burnt 1 (memory_fuse self.old) }
-        ensures foretold { Foretold 1 (memory_fuse self.old) (is_ok result) }
     {
         let good = self.trigger.call();
         self.counts.read();
@@ -107,18 +90,8 @@ impl Disk for MemoryDisk {
         requires calls { (memory_tally self.old).writes < 16 }
         requires room { (memory_tally self.old).octets + length octets.now ≤ 262400 }
         requires settled { (memory_tally self.old).unsettled ≡ false }
+        ensures writes { Writes at (length octets.now) octets.now (length octets.now) result (memory_moment self.old) (memory_moment self.new) }
         ensures held { memory_held self.new ≡ happen (memory_held self.old) (Wrote (written at octets.now (stored_of (is_ok result) (length octets.now)))) }
-        ensures exact { memory_faults self.new ≡ (if is_ok result then memory_faults self.old else one_more (memory_faults self.old)) }
-        ensures written { OnOk result (memory_image self.new ≡ option_map (put at octets.now) (memory_image self.old)) }
-        ensures told { is_some (memory_image self.new) ≡ is_some (memory_image self.old) }
-        ensures now { Follows at (length octets.now) (memory_may_leave self.old) (memory_may_leave self.new) }
-        ensures since { Grows (memory_left self.old) (memory_left self.new) (memory_may_leave self.new) }
-        ensures tally { memory_tally self.new ≡ after_write (length octets.now) (memory_tally self.old) }
-        ensures good { OnOk result (memory_faults self.new ≡ memory_faults self.old) }
-        ensures failed { OnErr result (Rose (memory_faults self.old) (memory_faults self.new)) }
-        ensures kept { memory_faults self.old ≤ memory_faults self.new }
-        ensures fuse { memory_fuse self.new ≡ burnt 1 (memory_fuse self.old) }
-        ensures foretold { Foretold 1 (memory_fuse self.old) (is_ok result) }
     {
         let count = octets.len();
         let good = self.trigger.call();
@@ -132,18 +105,8 @@ impl Disk for MemoryDisk {
         requires range { at + count ≤ (memory_tally self.old).size }
         requires calls { (memory_tally self.old).writes < 16 }
         requires settled { (memory_tally self.old).unsettled ≡ false }
+        ensures writes { Writes at count (replicate count 0) 0 result (memory_moment self.old) (memory_moment self.new) }
         ensures held { memory_held self.new ≡ happen (memory_held self.old) (Wrote (zeroed at count (stored_of (is_ok result) count))) }
-        ensures exact { memory_faults self.new ≡ (if is_ok result then memory_faults self.old else one_more (memory_faults self.old)) }
-        ensures written { OnOk result (memory_image self.new ≡ option_map (put at (replicate count 0)) (memory_image self.old)) }
-        ensures told { is_some (memory_image self.new) ≡ is_some (memory_image self.old) }
-        ensures now { Follows at count (memory_may_leave self.old) (memory_may_leave self.new) }
-        ensures since { Grows (memory_left self.old) (memory_left self.new) (memory_may_leave self.new) }
-        ensures tally { memory_tally self.new ≡ after_write 0 (memory_tally self.old) }
-        ensures good { OnOk result (memory_faults self.new ≡ memory_faults self.old) }
-        ensures failed { OnErr result (Rose (memory_faults self.old) (memory_faults self.new)) }
-        ensures kept { memory_faults self.old ≤ memory_faults self.new }
-        ensures fuse { memory_fuse self.new ≡ burnt 1 (memory_fuse self.old) }
-        ensures foretold { Foretold 1 (memory_fuse self.old) (is_ok result) }
     {
         let count = count as usize;
         let good = self.trigger.call();
@@ -155,19 +118,8 @@ impl Disk for MemoryDisk {
 
     fn sync(&mut self) -> Result<(), Failed>
         requires { (memory_tally self.old).writes < 16 }
+        ensures syncs { Syncs result (memory_moment self.old) (memory_moment self.new) }
         ensures held { memory_held self.new ≡ (if is_ok result then happen (memory_held self.old) Synced else memory_held self.old) }
-        ensures exact { memory_faults self.new ≡ (if is_ok result then memory_faults self.old else one_more (memory_faults self.old)) }
-        ensures image { memory_image self.new ≡ memory_image self.old }
-        ensures certain { OnOk result (Only (memory_image self.new) (memory_may_leave self.new)) }
-        ensures now { OnErr result (Same (memory_may_leave self.old) (memory_may_leave self.new)) }
-        ensures since { Grows (memory_left self.old) (memory_left self.new) (memory_may_leave self.new) }
-        ensures tally { OnOk result (memory_tally self.new ≡ after_sync (memory_tally self.old)) }
-        ensures tally_failed { OnErr result (memory_tally self.new ≡ after_failed_sync (memory_tally self.old)) }
-        ensures good { OnOk result (memory_faults self.new ≡ memory_faults self.old) }
-        ensures failed { OnErr result (Rose (memory_faults self.old) (memory_faults self.new)) }
-        ensures kept { memory_faults self.old ≤ memory_faults self.new }
-        ensures fuse { memory_fuse self.new ≡ burnt 1 (memory_fuse self.old) }
-        ensures foretold { Foretold 1 (memory_fuse self.old) (is_ok result) }
     {
         if !self.trigger.call() {
             self.counts.failed_sync();

@@ -1,10 +1,11 @@
 //! A history done again on an image.
 
-ghost use Rattle.std.specs.Prelude.{◌≡◌, ◌+◌, ◌≤◌, ◌<◌, true, [], ◌∷◌, length, take, drop, replicate};
+ghost use Rattle.std.specs.Prelude.{◌≡◌, ◌+◌, ◌≤◌, ◌<◌, true, [], ◌∷◌, length, drop, replicate};
 ghost use Rattle.std.specs.List.{list_all};
-ghost use Rattle.gp_disk.specs.Disk.{part, put};
+ghost use Rattle.gp_disk.specs.Disk.{put};
 ghost use Rattle.gp_disk.specs.Log.{log_events};
-ghost use Rattle.gp_disk.specs.Redone.{redone, ranges_of, filled, struck};
+ghost use Rattle.gp_disk.specs.Crash.{filled, struck};
+ghost use Rattle.gp_disk.specs.Redone.{redone, ranges_of};
 ghost use Rattle.gp_disk.specs.Step.{octets_of, events, is_within};
 
 use crate::log::{Log, Step};
@@ -96,7 +97,7 @@ fn strike_zeros(old: &mut [u8], way: u8)
     }
 }
 
-#[tactic(auto, using(crate::proofs::Replays::steps_again), unfolding(crate::specs::Step::octets_of, crate::specs::Step::events, crate::specs::Redone::struck, crate::specs::Redone::ranges_of))]
+#[tactic(auto, using(crate::proofs::Replays::steps_again), unfolding(crate::specs::Step::octets_of, crate::specs::Step::events, crate::specs::Crash::struck, crate::specs::Redone::ranges_of))]
 /// Strikes the range of a step, whose octets stand in front, and gives the octets behind them.
 fn strike_step<'a>(image: &mut [u8], step: Step, octets: &'a [u8], way: u8) -> &'a [u8]
     requires within { is_within (length image.old) step ≡ true }

@@ -2,8 +2,8 @@
 
 ghost use Rattle.std.specs.Prelude.{◌≡◌, ◌≤◌, false, if◌then◌else◌};
 ghost use Rattle.gp_base.specs.Outside.{one_more};
-ghost use Rattle.gp_disk.specs.declared.arming.Arming.TheVariants.{Waits, Unarmed, Spent};
-ghost use Rattle.gp_disk.specs.Fuse.{fuse_from, begun, lit, blown, goes, burnt, crashed, rearmed, deferred, is_due, Running};
+ghost use Rattle.gp_disk.specs.Fuse.{Waits, Unarmed, Spent, fuse_from, begun, lit, blown, goes, burnt, crashed, rearmed, deferred, is_due, Running};
+ghost use Rattle.gp_disk.specs.Trigger.{fuse_of, arming_of, ending_of};
 
 use crate::arming::{Arming, Ending};
 
@@ -16,8 +16,6 @@ pub struct Trigger {
 }
 
 impl Trigger {
-    ghost use Rattle.gp_disk.specs.Trigger.{fuse_of};
-
     /// Nothing is armed, and nothing has failed.
     pub fn unarmed() -> Trigger
         ensures fuse { fuse_of result ≡ Running Unarmed }
@@ -94,7 +92,7 @@ impl Trigger {
 
     /// Arms a stop or a fault in place of what is armed.
     pub fn arm(&mut self, begins: u64, calls: u64, ending: Ending)
-        ensures fuse { fuse_of self.new ≡ rearmed (Waits begins calls ending) (fuse_of self.old) }
+        ensures fuse { fuse_of self.new ≡ rearmed (Waits begins calls (ending_of ending)) (fuse_of self.old) }
         ensures faults { self.new.faults ≡ self.old.faults }
     {
         self.arming = Arming::Waits {
@@ -134,7 +132,7 @@ impl Trigger {
 
 /// A waiting arming after a `begin`.
 fn waiting(begins: u64, calls: u64, ending: Ending) -> Arming
-    ensures { result ≡ begun (Waits begins calls ending) }
+    ensures { arming_of result ≡ begun (Waits begins calls (ending_of ending)) }
 {
     if begins <= 1 {
         return Arming::Due { calls, ending };
@@ -147,7 +145,7 @@ fn waiting(begins: u64, calls: u64, ending: Ending) -> Arming
 }
 
 fn is_stop(ending: Ending) -> bool
-    ensures { fuse_from result Spent ≡ blown ending }
+    ensures { fuse_from result Spent ≡ blown (ending_of ending) }
 {
     match ending {
         Ending::Stop => true,

@@ -1,6 +1,7 @@
 use Rattle.std.proofs.Common.{◌≡◌, true, length, drop}
 use Rattle.std.specs.List.{list_all}
-use Rattle.gp_disk.specs.Redone.{ranges_of, struck}
+use Rattle.gp_disk.specs.Crash.{struck}
+use Rattle.gp_disk.specs.Redone.{ranges_of}
 use Rattle.gp_disk.specs.Step.{octets_of, events, is_within}
 use Rattle.gp_disk.proofs.replay.strike.Given as goal
 

@@ -1,8 +1,8 @@
 use Rattle.std.proofs.Common.{length, arith, length-take, refl}
 use Rattle.gp_disk.specs.declared.log.Step.TheVariants.{Write}
-use Rattle.gp_disk.specs.History.{at_rest}
+use Rattle.gp_disk.specs.History.{at_rest, written}
 use Rattle.gp_disk.specs.Log.{log_events}
-use Rattle.gp_disk.specs.Step.{written, is_write, is_within}
+use Rattle.gp_disk.specs.Step.{is_write, is_within}
 use Rattle.gp_disk.proofs.Contents.{reads-wrote, traced-wrote, list_all-push, within-write}
 use Rattle.gp_disk.proofs.content.Content.write.Goals as goal
 

@@ -1,9 +1,9 @@
 use Rattle.std.proofs.Common.{length, refl, arith, ℕ}
 use Rattle.std.proofs.lemmas.List.{length-replicate}
 use Rattle.gp_disk.specs.declared.log.Step.TheVariants.{Zero}
-use Rattle.gp_disk.specs.History.{at_rest}
+use Rattle.gp_disk.specs.History.{at_rest, zeroed}
 use Rattle.gp_disk.specs.Log.{log_events}
-use Rattle.gp_disk.specs.Step.{zeroed, is_write, is_within}
+use Rattle.gp_disk.specs.Step.{is_write, is_within}
 use Rattle.gp_disk.proofs.Contents.{reads-wrote, traced-wrote, list_all-push, within-zero}
 use Rattle.gp_disk.proofs.content.Content.zero.Goals as goal
 

@@ -1,7 +1,15 @@
-use Rattle.std.proofs.Common.{arith}
+use Rattle.std.proofs.Common.{rules, arith}
 use Rattle.gp_disk.specs.Content.{past_of}
 use Rattle.gp_disk.proofs.Pasts.{same-begun}
 use Rattle.gp_disk.proofs.memory.MemoryDiskDisk.begin.Goals as goal
 
-pub returns-clause-since : goal.returns-clause-since
-returns-clause-since c = same-begun (past_of c.begin.new.self) (omega (arith, c.begin.ensures.begun))
+pub returns-clause-begins : goal.returns-clause-begins
+returns-clause-begins c = record {
+  image = search rules;
+  now = search rules;
+  since =
+      same-begun (past_of c.begin.new.self) (omega (arith, c.begin.ensures.begun));
+  tally = search rules;
+  faults = search rules;
+  fuse = search rules;
+}

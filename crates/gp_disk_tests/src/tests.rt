@@ -3,7 +3,7 @@
 ghost use Rattle.std.specs.Prelude.{◌≡◌, ◌≤◌, false};
 ghost use Rattle.gp_disk.specs.Memory.{memory_tally};
 
-use crate::{Disk, FileDisk, MemoryDisk, stable, stable_zero};
+use gp_disk::{Disk, FileDisk, MemoryDisk, stable, stable_zero};
 use std::fs;
 use std::test::Fail;
 
@@ -157,6 +157,7 @@ fn a_file_holds_what_was_written(rt: HostRuntime) -> Result<(), Fail> {
     assert_eq!(rt; octets, *b"ab\0\0\0\0\0\0");
     let mut absent = FileDisk::at(&rt, rt.alloc(), "gp_disk_test/none/gp.disk")?;
     assert!(rt; absent.read(0, &mut octets).is_err());
+    assert_eq!(rt; octets, *b"ab\0\0\0\0\0\0");
     assert!(rt; absent.sync().is_err());
     fs::remove_dir_all(&rt, FOLDER)?;
     Ok(())

@@ -1,8 +1,8 @@
 use Rattle.std.proofs.Common.{◌≤◌, ◌-◌, length}
-use Rattle.gp_disk.proofs.file.read_file.Given as goal
+use Rattle.gp_disk.proofs.file.fill.Given as goal
 
 abbrev pub invariant-loop-place : goal.invariant-loop-place
-invariant-loop-place g l = l.place ≤ length l.into
+invariant-loop-place g l = l.place ≤ length l.piece
 
 abbrev pub decreases-loop-place : goal.decreases-loop-place
-decreases-loop-place g l = length l.into - l.place
+decreases-loop-place g l = length l.piece - l.place
