@@ -17,8 +17,9 @@ module _ (rows changed : List Row) (stale : List Stale) (last at : ℕ) (side : 
   module _ (c : List ℕ) (only : OnlyAt format_1 at side d c) where
     -- that slot is as it was
     same_holds : slots format_1 c at side ≡ slots format_1 d at side → HoldsRows c rows
+    unfolding HoldsRows
     same_holds same = record {
-      size = subst (λ (n : ℕ). 204800 ≤ n) (sym only.size) told.holds.size;
+      size = subst (λ (n : ℕ). 204800 ≤ n) (sym only.outside.size) told.holds.size;
       formatted = only.header ∙ told.holds.formatted;
       consistent = consistent_fewer (slots format_1 d) (slots format_1 c) (λ r s o is. sym (each r s) ∙ is) newest_same told.holds.consistent;
       each = holds_same (slots format_1 d) (slots format_1 c) rows newest_same told.holds.each;
@@ -35,8 +36,9 @@ module _ (rows changed : List Row) (stale : List Stale) (last at : ℕ) (side : 
 
     -- that slot is closed
     closed_holds : slots format_1 c at side ≡ None → HoldsRows c rows
+    unfolding HoldsRows
     closed_holds closed = record {
-      size = subst (λ (n : ℕ). 204800 ≤ n) (sym only.size) told.holds.size;
+      size = subst (λ (n : ℕ). 204800 ≤ n) (sym only.outside.size) told.holds.size;
       formatted = only.header ∙ told.holds.formatted;
       consistent = consistent_closes at side (slots format_1 d) (slots format_1 c) only.others told.holds.consistent behind closed;
       each = holds_same (slots format_1 d) (slots format_1 c) rows
@@ -51,8 +53,9 @@ module _ (rows changed : List Row) (stale : List Stale) (last at : ℕ) (side : 
     opened_newest opened = newest_opens at side (slots format_1 d) (slots format_1 c) only.others b opened (λ o is. fits.greatest at (other_side side) o is)
 
     opened_holds : slots format_1 c at side ≡ Some b → HoldsRows c changed
+    unfolding HoldsRows
     opened_holds opened = record {
-      size = subst (λ (n : ℕ). 204800 ≤ n) (sym only.size) told.holds.size;
+      size = subst (λ (n : ℕ). 204800 ≤ n) (sym only.outside.size) told.holds.size;
       formatted = only.header ∙ told.holds.formatted;
       consistent = consistent_opens at side (slots format_1 d) (slots format_1 c) only.others b opened told.holds.consistent fits;
       each = holds_changed at side (slots format_1 d) (slots format_1 c) b value rows changed (newest_elsewhere at side (slots format_1 d) (slots format_1 c) only.others) (opened_newest opened) spelled.shows change told.holds.each;
@@ -60,6 +63,7 @@ module _ (rows changed : List Row) (stale : List Stale) (last at : ℕ) (side : 
 
     -- no generation is above the next one
     generations : Rewrites format_1 at side b d c → (r : ℕ) (s : Bool) (o : List ℕ) → slots format_1 c r s ≡ Some o → generation o ≤ last + 1
+    unfolding HasLast
     generations rewrites r s o is = elim (was_open at side (slots format_1 d) (slots format_1 c) only.others r s o is) [
       | inr was ↦ let g = told.has_last.greatest r s o was in omega (arith, g)
       | inl here ↦ of_here rewrites.here (sym (ap (λ t. slots format_1 c at t) here.1) ∙ sym (ap (λ q. slots format_1 c q s) here.0) ∙ is)
@@ -80,6 +84,7 @@ module _ (rows changed : List Row) (stale : List Stale) (last at : ℕ) (side : 
     rewrites_hold rewrites = ⊎_elim (λ same. inl (same_holds same)) (⊎_elim (λ closed. inl (closed_holds closed)) (λ opened. inr (opened_holds opened))) rewrites.here
 
     pub rewrites_last : Rewrites format_1 at side b d c → (n : ℕ) → HasLast c n → n ≤ last + 2
+    unfolding HasLast
     rewrites_last rewrites n is = let below = last_within (slots format_1 c) n (last + 1) (generations rewrites) is in omega (arith, below)
 
   -- the slot is rewritten
@@ -88,6 +93,7 @@ module _ (rows changed : List Row) (stale : List Stale) (last at : ℕ) (side : 
     rewritten_holds = opened_holds e done.only done.here
 
     pub rewritten_last : HasLast e (last + 1)
+    unfolding HasLast
     rewritten_last = record {
       greatest = generations e done.only (record { only = done.only; here = inr (inr done.here) });
       reached = inr (at, side, b, done.here, spelled.numbered);

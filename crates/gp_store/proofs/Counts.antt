@@ -2,8 +2,7 @@
 use Rattle.std.proofs.Common.{◌≡◌, ◌⊎◌, inl, inr, ℕ, ◌+◌, ◌-◌, ◌≤◌, nat_le, true, Result, Ok, Err, OnOk, OnErr, refl, ◌∙◌, ap, subst, arith}
 use Rattle.std.proofs.lemmas.Bool.Decides.{nat_tests}
 use Rattle.gp_disk.specs.Disk.{Tally, after_write, after_sync, after_failed_sync, IsCutShort}
-use Rattle.gp_disk.specs.declared.arming.Arming.TheVariants.{Unarmed, Waits, Due, Spent}
-use Rattle.gp_disk.specs.Fuse.{Fuse, Untold, Running, Stopped, burnt, Foretold}
+use Rattle.gp_disk.specs.Fuse.{Unarmed, Waits, Due, Spent, Fuse, Untold, Running, Stopped, burnt, Foretold}
 use Rattle.gp_disk.proofs.Fuses.{burnt-burnt, Foretold-both}
 use Rattle.gp_store.specs.Untouched.{AllGone, GoesOn}
 

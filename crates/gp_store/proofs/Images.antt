@@ -5,7 +5,7 @@ use Rattle.std.proofs.lemmas.Bool.Decides.{nat_tests}
 use Rattle.std.proofs.Math.Nat.{mul-le-mul_left}
 use Rattle.gp_disk.specs.Disk.{part}
 use Rattle.gp_store.specs.Slots.{slot_number}
-use Rattle.gp_store.specs.Image.{Layout, OPEN, gate_at, slots_end, slots}
+use Rattle.gp_store.specs.Image.{Layout, OPEN, gate_at, slots}
 
 -- two slots are the same one
 abbrev pub IsAt : ℕ → Bool → ℕ → Bool → Type 0
@@ -27,14 +27,6 @@ numbers-differ row true r false other = elim (cases_lt row r) [ inl h ↦ inr (o
 pub apart : (l : Layout) (row : ℕ) (side : Bool) (r : ℕ) (s : Bool) → (IsAt row side r s → ⊥)
     → (gate_at l r s + (l.behind + 1) ≤ gate_at l row side) ⊎ (gate_at l row side + (l.behind + 1) ≤ gate_at l r s)
 apart l row side r s other = ⊎_elim (λ h. inl (slots-apart l (slot_number r s) (slot_number row side) h)) (λ h. inr (slots-apart l (slot_number row side) (slot_number r s) h)) (numbers-differ row side r s other)
-
--- a slot's octets end before the place behind the last slot
-pub before_end : (l : Layout) (row : ℕ) (side : Bool) → row < l.rows → gate_at l row side + (l.behind + 1) ≤ slots_end l
-before_end l row side there = slots-apart l (slot_number row side) (2 * l.rows) (number_within row side there)
-  where
-    number_within : (r : ℕ) (s : Bool) → r < l.rows → slot_number r s < 2 * l.rows
-    number_within r false h = omega (arith, h)
-    number_within r true h = omega (arith, h)
 
 -- a slot by its gate and the octets behind it
 slot_by : Layout → ℕ → ℕ → List ℕ → Option (List ℕ)

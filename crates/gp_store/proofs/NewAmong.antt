@@ -4,6 +4,7 @@ use Rattle.std.proofs.lemmas.Bool.{cases_eq}
 use Rattle.std.proofs.lemmas.Option.{slice_get-get_or, slice_get_within}
 use Rattle.gp_rows.specs.declared.row.Row.{Row}
 use Rattle.gp_rows.specs.Rows.{IsNewPair, IsNewOrder}
+use Rattle.gp_rows.proofs.Tables.{IsTable-push}
 use Rattle.gp_rows.proofs.Lists.{slice_get_in_push}
 use Rattle.gp_store.specs.declared.commit.Stale.{Stale}
 use Rattle.gp_store.specs.Slot.{source, key, order, Shows}
@@ -48,9 +49,10 @@ module _ (rows : List Row) (older octets : List ℕ) (at : ℕ) (row : Row) (as_
   order_of k other there src order_is = (judged.new k other (get_or older k 0) there (before_of k other there) (src ∙ shows.has_source)).1 (order_is ∙ shows.has_order)
 
 -- one row more is found
-pub found_more : (rows : List Row) (stale : List Stale) (older : List ℕ) (last : ℕ) (row : Row) (st : Stale) (bf next : ℕ) → IsFound rows stale older last → row.order ≤ next
+pub found_more : (rows : List Row) (stale : List Stale) (older : List ℕ) (last : ℕ) (row : Row) (st : Stale) (bf next : ℕ) → IsFound rows stale older last → row.order ≤ next → length rows < 1024 → IsNewPair rows row → IsNewOrder rows row
     → IsFound (rows ++ row ∷ []) (stale ++ st ∷ []) (older ++ bf ∷ []) (max last next)
-found_more rows stale older last row st bf next f within = record {
+found_more rows stale older last row st bf next f within room pair order = record {
+  table = IsTable-push rows row f.table room pair order;
   as_many = omega (arith, f.as_many, length-append rows (row ∷ []), length-append stale (st ∷ []));
   as_many_older = omega (arith, f.as_many_older, length-append rows (row ∷ []), length-append older (bf ∷ []));
   orders = λ k r is. ⊎_elim (λ p. let o = f.orders k r p.1 in omega (arith, o)) (λ p. let e : r.order ≡ row.order = ap (λ (x : Row). x.order) p.1 in omega (arith, e, within)) (slice_get_in_push rows row r k is);

@@ -7,8 +7,8 @@ use Rattle.gp_base.specs.declared.identity.KeyKind.TheVariants.{Nwk, Group, Deri
 use Rattle.gp_base.specs.declared.identity.Mode.{Mode}
 use Rattle.gp_base.specs.declared.identity.Mode.TheVariants.{Derived, Commissioned, Unicast}
 use Rattle.gp_rows.specs.declared.row.Row.{Row}
-use Rattle.gp_base.specs.Identity.{kind_number, mode_number}
-use Rattle.gp_store.specs.Slot.{Shows, level_number, live_number}
+use Rattle.gp_base.specs.Identity.{kind_number, level_number, mode_number}
+use Rattle.gp_store.specs.Slot.{Shows, live_number}
 use Rattle.gp_store.specs.Slots.{newer, newest, IsFormed}
 use Rattle.gp_store.specs.Image.{slots, format_1, HoldsRow, HoldsRows}
 use Rattle.gp_store.proofs.Consistent.{newest_is_open}
@@ -76,6 +76,7 @@ no_row (Some o) (Some row) h e = absurd (some_is_not o e)
     some_is_not x h = cc
 
 pub row_past : (d : List ℕ) (rows : List Row) (at : ℕ) → HoldsRows d rows → 1024 ≤ at → None ≡ slice_get rows at
+unfolding HoldsRows
 row_past d rows at h past = sym (no_row (newest (slots format_1 d) at) (slice_get rows at) (h.each at) (none_newest_of d at past))
 
 -- the row of an open slot
@@ -89,6 +90,7 @@ some_row o (Some a) (Some b) shows is h = ap (λ (x : Row). Some x) (shows_one o
 
 pub row_is : (d : List ℕ) (rows : List Row) (at : ℕ) (even odd : Option (List ℕ)) (r : Option Row) → HoldsRows d rows → slots format_1 d at false ≡ even → slots format_1 d at true ≡ odd
     → (newer even odd ≡ None → r ≡ None) → ((o : List ℕ) → newer even odd ≡ Some o → IsFormed o → IfSome r (Shows o 0)) → ((o : List ℕ) → newer even odd ≡ Some o → IsFormed o → IsSome r) → r ≡ slice_get rows at
+unfolding HoldsRows
 row_is d rows at even odd r h e o none some there = from (newest (slots format_1 d) at) refl
   where
     same : newest (slots format_1 d) at ≡ newer even odd

@@ -55,9 +55,11 @@ module _ (d : List ℕ) (found : Found) (long : 204800 ≤ length d) (formatted 
   ]
 
   pub all_held : HoldsRows d found.table
+  unfolding HoldsRows
   all_held = record { size = long; formatted = formatted; consistent = λ r s o e. reads.well r s o (within r s o e) e; each = each }
 
   pub all_last : HasLast d found.last
+  unfolding HasLast
   all_last = record { greatest = λ r s o e. reads.greatest r s o (within r s o e) e; reached = reads.reached }
 
   pub all_told : IsTold d found.table found.stale.items found.last

@@ -3,7 +3,7 @@ use Rattle.std.proofs.Common.{◌≡◌, inl, inr, ⊎_elim, ℕ, ◌+◌, ◌<�
 use Rattle.gp_disk.specs.Disk.{part, put, Outside, GrowsTorn, Same, Only}
 use Rattle.gp_store.specs.Image.{OPEN, gate_at, slots, format_1}
 use Rattle.gp_store.specs.Writes.{Rewrites, Rewritten, Closes, Closed, Filled, Opens, IsOpened, GrowsBy, Becomes, TellsOpen, LeavesRewritten}
-use Rattle.gp_store.specs.Commit.{KeepsBehind}
+use Rattle.gp_store.specs.Commit.{TouchesOneSlot}
 use Rattle.gp_store.proofs.Images.{slots_open}
 use Rattle.gp_store.proofs.Torn.{OnlyAt-same, OnlyAt-trans, torn_gate, torn_behind, written_closed, written_behind, written_open}
 use Rattle.gp_store.proofs.Grows.{grows_torn, becomes_put}
@@ -91,5 +91,6 @@ moments_since row side octets image begun old now since left only same_image sam
     (λ t. (t.0, sym same_image ∙ t.1, t.2))
     (g.none c l)
 
-pub keeps_behind : (row : ℕ) (side : Bool) (octets : List ℕ) (image : Option (List ℕ)) (left : List ℕ → Type 0) → LeavesRewritten row side octets image left → KeepsBehind image left
-keeps_behind row side octets image left moments = λ c l. let m = moments c l in (m.0, m.1, m.2.only.behind)
+-- no other slot is touched
+pub touches_one : (row : ℕ) (side : Bool) (octets : List ℕ) (image : Option (List ℕ)) (left : List ℕ → Type 0) → LeavesRewritten row side octets image left → TouchesOneSlot row image left
+touches_one row side octets image left moments = (side, λ c l. let m = moments c l in (m.0, m.1, m.2.only.outside))

@@ -5,8 +5,8 @@ use Rattle.std.proofs.lemmas.Nat.{from_le_bytes-to_le_bytes_2, from_le_bytes-to_
 use Rattle.std.specs.Int.{w16, w32, w64, to_le_bytes, from_le_bytes}
 use Rattle.gp_disk.specs.Disk.{part}
 use Rattle.gp_rows.specs.declared.row.Row.{Row}
-use Rattle.gp_base.specs.Identity.{kind_number, mode_number}
-use Rattle.gp_store.specs.Slot.{generation, source, key, kind, level, mode, group, device, live, order, floor, rest, level_number, live_number, Spelled}
+use Rattle.gp_base.specs.Identity.{kind_number, level_number, mode_number}
+use Rattle.gp_store.specs.Slot.{generation, source, key, kind, level, mode, group, device, live, order, floor, rest, live_number, Spelled}
 
 -- the octets before the key, and those after it
 head : Row → ℕ → List ℕ

@@ -1,26 +1,23 @@
 -- What a store knows of its disk after one row was written.
-use Rattle.std.proofs.Common.{◌≡◌, ◌⊎◌, inl, inr, ℕ, zero, suc, ◌+◌, ◌<◌, ◌≤◌, Bool, true, false, List, [], ◌∷◌, ◌++◌, Option, Some, None, Result, Ok, Err, OnOk, is_some, refl, sym, ◌∙◌, ap, subst, arith, slice_get, set, length, min, max, ◌^◌, ◌-◌}
+use Rattle.std.proofs.Common.{◌≡◌, ◌⊎◌, inl, inr, ⊎_elim, ℕ, ◌+◌, ◌<◌, ◌≤◌, Bool, true, false, List, [], ◌∷◌, ◌++◌, Option, Some, None, is_some, refl, sym, ◌∙◌, ap, subst, arith, slice_get, set, length, length-append}
 use Rattle.gp_disk.specs.Disk.{Tally, IsQuiet, Only}
 use Rattle.gp_rows.specs.declared.row.Row.{Row}
-use Rattle.gp_rows.specs.Rows.{changed}
-use Rattle.gp_rows.proofs.Tables.{changed_is}
-use Rattle.gp_store.specs.Pairing.{with_row}
-use Rattle.gp_store.specs.State.{State}
-use Rattle.gp_store.specs.declared.fault.CommitFault.{CommitFault}
-use Rattle.gp_store.specs.declared.fault.CommitFault.TheVariants.{TableFull, Worn, DiskFault, Halted}
-use Rattle.std.proofs.lemmas.Bool.{cases_eq}
+use Rattle.gp_rows.specs.Rows.{AreWithin}
+use Rattle.gp_rows.specs.Changes.{with_row}
+use Rattle.gp_rows.proofs.Applied.{AreWithin-with_row, with_row-set, with_row-end, slice_get-with_row_same, slice_get-with_row_other}
+use Rattle.gp_rows.proofs.Lists.{slice_get_in_set, slice_get_in_push}
+use Rattle.std.proofs.lemmas.Bool.{cases_lt}
 use Rattle.std.proofs.lemmas.List.{length-set}
-use Rattle.std.proofs.lemmas.Option.{slice_get_within}
-use Rattle.gp_rows.proofs.Lists.{slice_get_in_set, slice_get-set_same, slice_get-set_other}
+use Rattle.std.proofs.lemmas.Option.{slice_get_within, slice_get_past, slice_get-get_or}
 use Rattle.gp_store.specs.declared.commit.Stale.{Stale}
 use Rattle.gp_store.specs.Slot.{Spelled}
 use Rattle.gp_store.specs.Slots.{other_side, newest}
 use Rattle.gp_store.specs.Image.{slots, format_1, HoldsRows, HasLast}
 use Rattle.gp_store.specs.Writes.{Rewritten, TellsOpen, Writes, IsWritable}
-use Rattle.gp_store.specs.Commit.{Survives, Stands, HasReason, OnMade, OnNotMade, OnDiskFault, undecided_after}
-use Rattle.gp_store.specs.Kept.{IsStale, IsTold, IsReady}
+use Rattle.gp_store.specs.Commit.{Survives, Stands}
+use Rattle.gp_store.specs.Kept.{IsStale, IsTold, IsReady, Replaces, Appends, MayPut}
 use Rattle.gp_store.proofs.Consistent.{Opens}
-use Rattle.gp_store.proofs.RowsHeld.{ChangesAt, slot_of_row, opens_there}
+use Rattle.gp_store.proofs.RowsHeld.{ChangesAt, slot_of_row, opens_there, opens_at_end, closed_past}
 use Rattle.gp_store.proofs.Grows.{became_from}
 use Rattle.gp_store.proofs.Commits.{rewrites_hold, rewrites_last, rewritten_holds, rewritten_last, rewritten_stale, rewritten_others}
 
@@ -79,125 +76,138 @@ module _ (image new : Option (List ℕ)) (rows changed : List Row) (stales : Lis
         at_each e is r s (inr other) = let f = from e is in
             rewritten_others rows changed stales last at side value w.octets f.0 (told f.0 f.1) (behind f.0 f.1) (fits f.0 w.octets f.1 w.spelled) w.spelled change e f.2 r s other.0 ((told f.0 f.1).each r s other.1)
 
--- a row that is there gets new values, and keeps its SrcID and key, and its order too where that isn't new
-module _ (tally : Tally) (may_leave : List ℕ → Type 0) (image new : Option (List ℕ)) (rows changed : List Row) (stales : List Stale) (last at : ℕ) (stale : Stale) (was value : Row)
-    (is_ready : IsReady tally image may_leave rows stales last) (there : slice_get rows at ≡ Some was) (stale_there : slice_get stales at ≡ Some stale)
-    (source_is : value.src.0 ≡ was.src.0) (key_is : value.key.0 ≡ was.key.0) (order_is : (value.order ≡ was.order) ⊎ (value.order ≡ last + 1)) (change : ChangesAt rows at value changed) where
-  there_behind : (d : List ℕ) → image ≡ Some d → newest (slots format_1 d) at ≡ slots format_1 d at (other_side stale.odd)
-  there_behind d is = ((is_ready.told d is).each at stale stale_there).newest_is_other
+-- the rows with one put at its number differ there alone
+changes_with : (rows : List Row) (at : ℕ) (value : Row) → at ≤ length rows → ChangesAt rows at value (with_row rows at value)
+changes_with rows at value within = record { here = slice_get-with_row_same rows at value within; others = λ k other. slice_get-with_row_other rows at k value within other }
 
-  there_fits : (d b : List ℕ) → image ≡ Some d → Spelled b value (last + 1) → Opens (slots format_1 d) at stale.odd b
-  there_fits d b is spelled = let t = is_ready.told d is in
-      opens_there (slots format_1 d) rows at stale.odd b value last t.holds.consistent t.holds.each t.has_last spelled was there source_is key_is order_is
+-- a row that may be put at a number: what is known of each image
+record CanPut (image : Option (List ℕ)) (rows : List Row) (stales : List Stale) (last at : ℕ) (side next_open : Bool) (value : Row) : Type 0 where
+  told : (d : List ℕ) → image ≡ Some d → IsTold d rows stales last
+  behind : (d : List ℕ) → image ≡ Some d → newest (slots format_1 d) at ≡ slots format_1 d at (other_side side)
+  fits : (d b : List ℕ) → image ≡ Some d → Spelled b value (last + 1) → Opens (slots format_1 d) at side b
+  other : (d : List ℕ) → image ≡ Some d → is_some (slots format_1 d at (other_side side)) ≡ next_open
+  within : at ≤ length rows
 
-  there_open : (d : List ℕ) → image ≡ Some d → is_some (slots format_1 d at (other_side stale.odd)) ≡ true
-  there_open d is = let o = slot_of_row (slots format_1 d) rows at was (is_ready.told d is).holds.each there in
-      ap is_some (sym (there_behind d is) ∙ o.1)
+-- the slots of the row behind the last one are closed
+none_at : (tally : Tally) (may_leave : List ℕ → Type 0) (image : Option (List ℕ)) (rows : List Row) (stales : List Stale) (last at : ℕ) → IsReady tally image may_leave rows stales last → at ≡ length rows
+    → (d : List ℕ) → image ≡ Some d → (newest (slots format_1 d) at ≡ None) × ((s : Bool) → slots format_1 d at s ≡ None)
+unfolding HoldsRows
+none_at tally may_leave image rows stales last at is_ready end d is = closed_past (slots format_1 d) rows at (is_ready.told d is).holds.each (slice_get_past rows at (omega (arith, end)))
 
-  pub there_survives : (left : List ℕ → Type 0) (is_done : Bool) → Writes at stale.odd value (last + 1) image new left is_done → Survives left rows changed last
-  there_survives = survives image new rows changed stales last at stale.odd value is_ready.told there_behind there_fits change
+-- which slot is stale, as a store finds it
+pub record IsStaleAt (stales : List Stale) (at : ℕ) (stale : Stale) : Type 0 where
+  pub there : (s : Stale) → slice_get stales at ≡ Some s → stale ≡ s
+  pub behind : length stales ≤ at → stale ≡ record { odd = false; is_open = false }
 
-  pub there_stands : (left : List ℕ → Type 0) (is_done : Bool) → Writes at stale.odd value (last + 1) image new left is_done → is_done ≡ true → (may_leave' : List ℕ → Type 0) → Only new may_leave' → Stands may_leave' changed (last + 1)
-  there_stands = stands image new rows changed stales last at stale.odd value is_ready.told there_behind there_fits change
+-- which slot is stale afterwards
+pub record IsSetAt (stales : List Stale) (at : ℕ) (odd : Bool) (later : List Stale) : Type 0 where
+  pub there : at < length stales → later ≡ set stales at (record { odd = odd; is_open = true })
+  pub behind : at ≡ length stales → later ≡ stales ++ record { odd = odd; is_open = false } ∷ []
 
-  pub there_ready : (left : List ℕ → Type 0) (is_done : Bool) → Writes at stale.odd value (last + 1) image new left is_done → is_done ≡ true → (tally' : Tally) (may_leave' : List ℕ → Type 0) → 204800 ≤ tally'.size → IsQuiet tally' new may_leave'
-      → IsReady tally' new may_leave' changed (set stales at (record { odd = other_side stale.odd; is_open = true })) (last + 1)
-  there_ready left is_done w done tally' may_leave' size quiet =
-      ready image new rows changed stales last at stale.odd value is_ready.told there_behind there_fits change left is_done w done tally' may_leave' size quiet
-      (record { odd = other_side stale.odd; is_open = true }) refl there_open
-      (set stales at (record { odd = other_side stale.odd; is_open = true })) (λ r s is. slice_get_in_set stales at r _ s is)
+module _ (tally : Tally) (may_leave : List ℕ → Type 0) (image : Option (List ℕ)) (rows : List Row) (stales : List Stale) (last at : ℕ) (as_many : length stales ≡ length rows) (stale : Stale) (found : IsStaleAt stales at stale) (is_ready : IsReady tally image may_leave rows stales last) where
+  stale_there : at < length rows → slice_get stales at ≡ Some stale
+  stale_there within = let s : Stale = record { odd = false; is_open = false } in
+      let here = slice_get-get_or stales at s (omega (arith, within, as_many)) in here ∙ ap (λ (x : Stale). Some x) (sym (found.there _ here))
 
--- the change of one row is a write there
-pub change_at_set : (rows : List Row) (at : ℕ) (value : Row) → at < length rows → ChangesAt rows at value (set rows at value)
-change_at_set rows at value within = record { here = slice_get-set_same rows at value within; others = λ k other. slice_get-set_other rows at k value other }
+  -- the row can be written into that slot
+  pub put_writable : at ≤ length rows → IsWritable tally image may_leave at stale.odd stale.is_open
+  put_writable within = record { size = is_ready.size; quiet = is_ready.quiet; tells = tells image is_ready.told (none_at tally may_leave image rows stales last at is_ready) }
+    where
+      tells : (i : Option (List ℕ)) → ((d : List ℕ) → i ≡ Some d → IsTold d rows stales last) → (at ≡ length rows → (d : List ℕ) → i ≡ Some d → (newest (slots format_1 d) at ≡ None) × ((s : Bool) → slots format_1 d at s ≡ None))
+          → TellsOpen format_1 at stale.odd stale.is_open i
+      tells None told none = tt
+      tells (Some d) told none = elim (cases_lt at (length rows)) [
+        | inl h ↦ ((told d refl).each at stale (stale_there h)).tells
+        | inr h ↦
+            let end : at ≡ length rows = omega (arith, h, within) in
+            let is = found.behind (omega (arith, h, as_many)) in
+            ap is_some ((none end d refl).1 stale.odd) ∙ sym (ap (λ (x : Stale). x.is_open) is)
+      ]
 
-pub change_at_changed : (f : Row → Row) (rows : List Row) (at : ℕ) (row : Row) → slice_get rows at ≡ Some row → ChangesAt rows at (f row) (changed f rows at)
-change_at_changed f rows at row there = subst (λ l. ChangesAt rows at (f row) l) (sym (changed_is f rows at row there)) (change_at_set rows at (f row) (slice_get_within rows at row there))
+  replaces_can : (value : Row) → Replaces rows last at value → CanPut image rows stales last at stale.odd true value
+  unfolding HoldsRows HasLast
+  replaces_can value r =
+      let inside = slice_get_within rows at r.before r.there in
+      let here = stale_there inside in
+      record {
+        told = is_ready.told;
+        behind = λ d is. ((is_ready.told d is).each at stale here).newest_is_other;
+        fits = λ d b is spelled. let t = is_ready.told d is in
+            opens_there (slots format_1 d) rows at stale.odd b value last t.holds.consistent t.holds.each t.has_last spelled r.before r.there r.source r.key r.order;
+        other = λ d is. let o = slot_of_row (slots format_1 d) rows at r.before (is_ready.told d is).holds.each r.there in
+            ap is_some (sym ((is_ready.told d is).each at stale here).newest_is_other ∙ o.1);
+        within = omega (arith, inside);
+      }
 
-pub length-changed : (f : Row → Row) (rows : List Row) (at : ℕ) (row : Row) → slice_get rows at ≡ Some row → length (changed f rows at) ≡ length rows
-length-changed f rows at row there = ap length (changed_is f rows at row there) ∙ length-set rows at (f row)
+  appends_can : (value : Row) → Appends rows last at value → CanPut image rows stales last at stale.odd false value
+  unfolding HoldsRows HasLast
+  appends_can value f =
+      let odd : stale.odd ≡ false = ap (λ (x : Stale). x.odd) (found.behind (omega (arith, f.end, as_many))) in
+      subst (λ (side : Bool). CanPut image rows stales last at side false value) (sym odd) (record {
+        told = is_ready.told;
+        behind = λ d is. let n = none_at tally may_leave image rows stales last at is_ready f.end d is in n.0 ∙ sym (n.1 true);
+        fits = λ d b is spelled. let t = is_ready.told d is in
+            opens_at_end (slots format_1 d) rows at false b value last t.holds.consistent t.holds.each t.has_last spelled f.end f.new f.order f.above f.below;
+        other = λ d is. ap is_some ((none_at tally may_leave image rows stales last at is_ready f.end d is).1 true);
+        within = omega (arith, f.end);
+      })
+
+  module _ (new : Option (List ℕ)) (value : Row) (left : List ℕ → Type 0) (is_done : Bool) (w : Writes at stale.odd value (last + 1) image new left is_done) where
+    survives_by : (next_open : Bool) → CanPut image rows stales last at stale.odd next_open value → Survives left rows (with_row rows at value) last
+    survives_by next_open can = survives image new rows (with_row rows at value) stales last at stale.odd value can.told can.behind can.fits (changes_with rows at value can.within) left is_done w
+
+    -- at each moment of the write
+    pub put_survives : MayPut rows last at value → Survives left rows (with_row rows at value) last
+    put_survives (inl r) = survives_by true (replaces_can value r)
+    put_survives (inr f) = survives_by false (appends_can value f)
+
+    module _ (done : is_done ≡ true) (after : Tally) (now : List ℕ → Type 0) where
+      stands_by : (next_open : Bool) → CanPut image rows stales last at stale.odd next_open value → Only new now → Stands now (with_row rows at value) (last + 1)
+      stands_by next_open can = stands image new rows (with_row rows at value) stales last at stale.odd value can.told can.behind can.fits (changes_with rows at value can.within) left is_done w done now
+
+      -- once it is done
+      pub put_stands : MayPut rows last at value → Only new now → Stands now (with_row rows at value) (last + 1)
+      put_stands (inl r) = stands_by true (replaces_can value r)
+      put_stands (inr f) = stands_by false (appends_can value f)
+
+      -- the disk is ready for the next commit
+      pub put_ready : MayPut rows last at value → 204800 ≤ after.size → IsQuiet after new now → (later : List Stale) → IsSetAt stales at (other_side stale.odd) later → IsReady after new now (with_row rows at value) later (last + 1)
+      put_ready (inl r) size quiet later is =
+          let can = replaces_can value r in
+          let inside = slice_get_within rows at r.before r.there in
+          let next : Stale = record { odd = other_side stale.odd; is_open = true } in
+          let set_is = is.there (omega (arith, inside, as_many)) in
+          ready image new rows (with_row rows at value) stales last at stale.odd value can.told can.behind can.fits (changes_with rows at value can.within) left is_done w done after now size quiet next refl can.other later
+          (λ q s there. slice_get_in_set stales at q next s (sym (ap (λ (l : List Stale). slice_get l q) set_is) ∙ there))
+      put_ready (inr f) size quiet later is =
+          let can = appends_can value f in
+          let next : Stale = record { odd = other_side stale.odd; is_open = false } in
+          let set_is = is.behind (f.end ∙ sym as_many) in
+          ready image new rows (with_row rows at value) stales last at stale.odd value can.told can.behind can.fits (changes_with rows at value can.within) left is_done w done after now size quiet next refl can.other later
+          (λ q s there. ⊎_elim (λ p. inr ((λ e. omega (arith, e, p.0, f.end, as_many)), p.1)) (λ p. inl (omega (arith, p.0, f.end, as_many), p.1)) (slice_get_in_push stales next s q (sym (ap (λ (l : List Stale). slice_get l q) set_is) ∙ there)))
 
 -- no order is above the next generation
-pub orders_after : (rows after : List Row) (at : ℕ) (value : Row) (last : ℕ) → ChangesAt rows at value after → ((r : ℕ) (row : Row) → slice_get rows r ≡ Some row → row.order ≤ last) → value.order ≤ last + 1
-    → (r : ℕ) (row : Row) → slice_get after r ≡ Some row → row.order ≤ last + 1
-orders_after rows after at value last change orders within r row is = elim (cases_eq r at) [
-  | inl here ↦ let same : row ≡ value = some_is (sym is ∙ ap (λ q. slice_get after q) here ∙ change.here) in omega (arith, within, ap (λ (x : Row). x.order) same)
-  | inr other ↦ let o = orders r row (sym (change.others r other) ∙ is) in omega (arith, o)
+pub order_put : (rows : List Row) (last at : ℕ) (value : Row) → AreWithin last rows → MayPut rows last at value → AreWithin (last + 1) (with_row rows at value)
+order_put rows last at value orders may = AreWithin-with_row (last + 1) rows at value (within may) (λ k row is. let o = orders k row is in omega (arith, o)) (order may)
+  where
+    within : MayPut rows last at value → at ≤ length rows
+    within (inl r) = let inside = slice_get_within rows at r.before r.there in omega (arith, inside)
+    within (inr a) = omega (arith, a.end)
+
+    order : MayPut rows last at value → value.order ≤ last + 1
+    order (inl r) = let its = orders at r.before r.there in ⊎_elim (λ e. omega (arith, e, its)) (λ e. omega (arith, e)) r.order
+    order (inr a) = omega (arith, a.order)
+
+-- there are as many stale slots as rows
+pub as_many_put : (rows : List Row) (stales later : List Stale) (at : ℕ) (value : Row) (odd : Bool) → length stales ≡ length rows → at ≤ length rows → IsSetAt stales at odd later → length later ≡ length (with_row rows at value)
+as_many_put rows stales later at value odd as_many within is = elim (cases_lt at (length rows)) [
+  | inl h ↦
+      let next : Stale = record { odd = odd; is_open = true } in
+      ap length (is.there (omega (arith, h, as_many))) ∙ length-set stales at next ∙ as_many ∙ sym (length-set rows at value) ∙ sym (ap length (with_row-set rows at value h))
+  | inr h ↦
+      let end : at ≡ length rows = omega (arith, h, within) in
+      let next : Stale = record { odd = odd; is_open = false } in
+      let one = ap length (is.behind (end ∙ sym as_many)) in
+      let other = ap length (with_row-end rows at value end) in
+      omega (arith, one, other, length-append stales (next ∷ []), length-append rows (value ∷ []), as_many)
 ]
-  where
-    some_is : {x y : Row} → Some x ≡ Some y → x ≡ y
-    some_is h = cc
-
--- what holds of a commit that is made, where the store wasn't halted
-pub on_made : {T : Type 0} (r : Result T CommitFault) (halted : Bool) (full : Type 0) (last : ℕ) (P Q : Type 0) → HasReason r halted full last → OnMade r P → (halted ≡ false → P → Q) → OnMade r Q
-on_made (Ok value) halted full last P Q why made step = step why.0 made
-on_made (Err TableFull) halted full last P Q why made step = tt
-on_made (Err (Worn generation)) halted full last P Q why made step = tt
-on_made (Err DiskFault) halted full last P Q why made step = step why.0 made
-on_made (Err Halted) halted full last P Q why made step = tt
-
--- a row put at a place that is there is a write
-pub with_row_is : (rows : List Row) (at : ℕ) (value : Row) → at < length rows → with_row rows at value ≡ set rows at value
-with_row_is [] at value h = absurd (omega arith)
-with_row_is (row ∷ rows) zero value h = refl
-with_row_is (row ∷ rows) (suc at) value h = ap (λ (l : List Row). row ∷ l) (with_row_is rows at value (omega arith))
-
--- a row put at the end
-pub with_row_end : (rows : List Row) (at : ℕ) (value : Row) → at ≡ length rows → with_row rows at value ≡ rows ++ value ∷ []
-with_row_end [] at value h = refl
-with_row_end (row ∷ rows) zero value h = absurd (omega arith)
-with_row_end (row ∷ rows) (suc at) value h = ap (λ (l : List Row). row ∷ l) (with_row_end rows at value (omega arith))
-
--- the values that a pairing gives a row that is there
-pub revived_value : (row before value : Row) (next last : ℕ) → last < 2 ^ 64 - 1 → next ≡ min (last + 1) (2 ^ 64 - 1) → value.floor ≡ max before.floor row.floor → value ≡ record row { order = next; floor = value.floor }
-    → value ≡ record row { order = last + 1; floor = max before.floor row.floor }
-revived_value row before value next last small is floor_is shape =
-    let e : next ≡ last + 1 = omega (arith, is, small) in
-    shape ∙ ap (λ (o : ℕ). record row { order = o; floor = value.floor }) e ∙ ap (λ (f : ℕ). record row { order = last + 1; floor = f }) floor_is
-
-pub some_same : {X : Type 0} {x y : X} → Some x ≡ Some y → x ≡ y
-some_same h = cc
-
--- the same with the last generation, which isn't the greatest one
-pub on_made_by : {T : Type 0} (r : Result T CommitFault) (halted : Bool) (full : Type 0) (last : ℕ) (P Q : Type 0) → HasReason r halted full last → OnMade r P → (halted ≡ false → last < 2 ^ 64 - 1 → P → Q) → OnMade r Q
-on_made_by (Ok value) halted full last P Q why made step = step why.0 why.2 made
-on_made_by (Err TableFull) halted full last P Q why made step = tt
-on_made_by (Err (Worn generation)) halted full last P Q why made step = tt
-on_made_by (Err DiskFault) halted full last P Q why made step = step why.0 why.2 made
-on_made_by (Err Halted) halted full last P Q why made step = tt
-
--- equal states have the same rows
-pub rows_of : {D : Type 0} {a b : State D} → a ≡ b → a.rows ≡ b.rows
-rows_of {D} e = ap (λ (s : State D). s.rows) e
-
--- what is undecided afterwards, answer by answer
-pub undecided_says : {T : Type 0} (r : Result T CommitFault) (old new : Option (ℕ × Row)) (at : ℕ) (value : Row) → new ≡ undecided_after r old at value → OnDiskFault r (new ≡ Some (at, value)) × OnNotMade r (new ≡ old) × OnOk r (new ≡ old)
-undecided_says (Ok v) old new at value is = (tt, tt, is)
-undecided_says (Err TableFull) old new at value is = (tt, is, tt)
-undecided_says (Err (Worn generation)) old new at value is = (tt, is, tt)
-undecided_says (Err DiskFault) old new at value is = (is, tt, tt)
-undecided_says (Err Halted) old new at value is = (tt, is, tt)
-
-pub on_disk_fault : {T : Type 0} (r : Result T CommitFault) (P Q : Type 0) → (P → Q) → OnDiskFault r P → OnDiskFault r Q
-on_disk_fault (Ok v) P Q f p = tt
-on_disk_fault (Err TableFull) P Q f p = tt
-on_disk_fault (Err (Worn generation)) P Q f p = tt
-on_disk_fault (Err DiskFault) P Q f p = f p
-on_disk_fault (Err Halted) P Q f p = tt
-
--- the same reasons where the rows have no room for the same reason
-pub reason_same : {T : Type 0} (r : Result T CommitFault) (halted : Bool) (P Q : Type 0) (last : ℕ) → (P → Q) → (Q → P) → HasReason r halted P last → HasReason r halted Q last
-reason_same (Ok v) halted P Q last f g why = (why.0, (λ q. why.1 (g q)), why.2)
-reason_same (Err TableFull) halted P Q last f g why = (why.0, f why.1)
-reason_same (Err (Worn generation)) halted P Q last f g why = (why.0, (λ q. why.1 (g q)), why.2, why.3)
-reason_same (Err DiskFault) halted P Q last f g why = (why.0, (λ q. why.1 (g q)), why.2)
-reason_same (Err Halted) halted P Q last f g why = why
-
--- a row that is there can be written into its stale slot
-pub there_writable : (tally : Tally) (image : Option (List ℕ)) (may_leave : List ℕ → Type 0) (rows : List Row) (stales : List Stale) (last at : ℕ) (stale : Stale) → IsReady tally image may_leave rows stales last → slice_get stales at ≡ Some stale
-    → IsWritable tally image may_leave at stale.odd stale.is_open
-there_writable tally image may_leave rows stales last at stale r there = record { size = r.size; quiet = r.quiet; tells = tells image r.told }
-  where
-    tells : (i : Option (List ℕ)) → ((d : List ℕ) → i ≡ Some d → IsTold d rows stales last) → TellsOpen format_1 at stale.odd stale.is_open i
-    tells None told = tt
-    tells (Some d) told = ((told d refl).each at stale there).tells

@@ -1,28 +1,39 @@
 -- One fact a kind of stable write: what an image is whose named range may hold any octets, and what it is after the write.
 use Rattle.std.proofs.Common.{◌≡◌, ◌⊎◌, inl, inr, ⊎_elim, ℕ, ◌+◌, ◌<◌, ◌≤◌, Bool, List, [], ◌∷◌, length, Some, None, refl, ◌∙◌, ap, subst, arith}
 use Rattle.gp_disk.specs.Disk.{part, put, Outside}
-use Rattle.gp_store.specs.Image.{Layout, OPEN, gate_at, slots_end, slots}
+use Rattle.gp_store.specs.Image.{Layout, OPEN, gate_at, slots}
 use Rattle.gp_store.specs.Writes.{OnlyAt, Closed, Rewritten}
 use Rattle.gp_store.proofs.Parts.{part-outside, drop-outside, octet-outside, part-put, octet-put, Outside-put}
-use Rattle.gp_store.proofs.Images.{apart, before_end, slots_same, slots_either, slots_at_open, slots_at_closed, slots_closed_same}
+use Rattle.gp_store.proofs.Images.{apart, slots_same, slots_either, slots_at_open, slots_at_closed, slots_closed_same}
+
+-- a range that lies within another
+pub Outside-within : (at n from count : ℕ) (old new : List ℕ) → from ≤ at → at + n ≤ from + count → Outside at n old new → Outside from count old new
+Outside-within at n from count old new starts ends o = record {
+  size = o.size;
+  below = part-outside at n old new 0 from o (inl (omega arith));
+  above = drop-outside at n old new (from + count) o ends;
+}
 
 pub OnlyAt-same : (l : Layout) (row : ℕ) (side : Bool) (image : List ℕ) → OnlyAt l row side image image
-OnlyAt-same l row side image = record { size = refl; header = refl; others = λ r s other. refl; behind = refl }
+OnlyAt-same l row side image = record { outside = record { size = refl; below = refl; above = refl }; header = refl; others = λ r s other. refl }
 
 pub OnlyAt-trans : (l : Layout) (row : ℕ) (side : Bool) (a b c : List ℕ) → OnlyAt l row side a b → OnlyAt l row side b c → OnlyAt l row side a c
-OnlyAt-trans l row side a b c p q = record { size = q.size ∙ p.size; header = q.header ∙ p.header; others = λ r s other. q.others r s other ∙ p.others r s other; behind = q.behind ∙ p.behind }
+OnlyAt-trans l row side a b c p q = record {
+  outside = record { size = q.outside.size ∙ p.outside.size; below = q.outside.below ∙ p.outside.below; above = q.outside.above ∙ p.outside.above };
+  header = q.header ∙ p.header;
+  others = λ r s other. q.others r s other ∙ p.others r s other;
+}
 
 module _ (l : Layout) (row : ℕ) (side : Bool) (behind_header : 8 ≤ l.first) (there : row < l.rows) where
-  -- octets of a slot, its gate or those behind it, change no other slot, not the header and nothing behind the slots
+  -- octets of a slot, its gate or those behind it, change no other slot and not the header
   pub only_at : (at n : ℕ) (old new : List ℕ) → gate_at l row side ≤ at → at + n ≤ gate_at l row side + (l.behind + 1) → Outside at n old new → OnlyAt l row side old new
   only_at at n old new from to o = record {
-    size = o.size;
+    outside = Outside-within at n (gate_at l row side) (l.behind + 1) old new from to o;
     header = part-outside at n old new 0 8 o (inl (omega arith));
     others = λ r s other. let where_it_is = apart l row side r s other in
         slots_same l old new r s
         (octet-outside at n old new (gate_at l r s) o (⊎_elim (λ h. inl (omega arith)) (λ h. inr (omega arith)) where_it_is))
         (part-outside at n old new (gate_at l r s + 1) l.behind o (⊎_elim (λ h. inl (omega arith)) (λ h. inr (omega arith)) where_it_is));
-    behind = drop-outside at n old new (slots_end l) o (let b = before_end l row side there in omega (arith, b, to));
   }
 
   -- a torn gate leaves that slot closed, or open with the octets behind it

@@ -2,6 +2,7 @@
 use Rattle.std.specs.Prelude.{◌≡◌, ◌≤◌, ℕ, ◌+◌, ◌*◌, Bool, nat_lt, ◌==◌, ◌&&◌, if◌then◌else◌, List, [], ◌∷◌, ◌++◌, codes, length, slice_index, slice_get, Option, Some, None}
 use Rattle.gp_disk.specs.Disk.{part}
 use Rattle.gp_rows.specs.declared.row.Row.{Row}
+use Rattle.gp_rows.specs.Rows.{CAPACITY}
 use Rattle.gp_store.specs.Slot.{Shows}
 use Rattle.gp_store.specs.Slots.{Slots, slot_number, newest, IsConsistent, IsLast}
 
@@ -17,9 +18,13 @@ pub record Layout : Type 0 where
   pub behind : ℕ
   pub rows : ℕ
 
+-- the octets of an image of format 1
+abbrev pub IMAGE_SIZE : ℕ
+IMAGE_SIZE = 204800
+
 -- format 1: 204,800 octets; slot s is 64 octets from 4,096 + 64 s on, for s from 0 to 2,047
 abbrev pub format_1 : Layout
-format_1 = record { size = 204800; first = 4096; behind = 63; rows = 1024 }
+format_1 = record { size = IMAGE_SIZE; first = 4096; behind = 63; rows = CAPACITY }
 
 -- the place of the gate of a slot
 abbrev pub gate_at : Layout → ℕ → Bool → ℕ
@@ -60,9 +65,9 @@ abbrev pub no_counters : ℕ → ℕ
 no_counters row = 0
 
 -- the rows that an image of format 1 holds
-abbrev pub HoldsRows : List ℕ → List Row → Type 0
+unfoldable pub HoldsRows : List ℕ → List Row → Type 0
 HoldsRows = Holds format_1 no_counters
 
 -- the last generation of an image of format 1
-abbrev pub HasLast : List ℕ → ℕ → Type 0
+unfoldable pub HasLast : List ℕ → ℕ → Type 0
 HasLast image = IsLast (slots format_1 image)

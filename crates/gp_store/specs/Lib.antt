@@ -10,5 +10,4 @@ pub mod Untouched
 pub mod Recovery
 pub mod FormatWrites
 pub mod Formatting
-pub mod Pairing
 pub mod Held

@@ -1,6 +1,7 @@
 -- How far a reading of the slots has come. No public clause cites this file.
 use Rattle.std.specs.Prelude.{◌≡◌, ◌<◌, ◌≤◌, ◌⊎◌, ℕ, Bool, true, false, List, Option, Some, None, length, slice_get, is_some, if◌then◌else◌}
 use Rattle.gp_rows.specs.declared.row.Row.{Row}
+use Rattle.gp_rows.specs.Rows.{IsTable}
 use Rattle.gp_store.specs.declared.found.Found.{Found}
 use Rattle.gp_store.specs.declared.commit.Stale.{Stale}
 use Rattle.gp_store.specs.Slot.{source, key, order, generation}
@@ -36,9 +37,10 @@ pub record ReadsTo (slots : Slots) (at : ℕ) (rows : List Row) (stale : List St
   pub greatest : (r : ℕ) (s : Bool) (o : List ℕ) → r < at → slots r s ≡ Some o → generation o ≤ last
   pub reached : (last ≡ 0) ⊎ ((r : ℕ) × (s : Bool) × (o : List ℕ) × (slots r s ≡ Some o) × (generation o ≡ last))
 
--- what is found, whatever the disk holds: as many stale slots and orders of older slots as rows, and no order above the
--- last generation
+-- what is found, whatever the disk holds: a table, as many stale slots and orders of older slots as rows, and no order above
+-- the last generation
 pub record IsFound (rows : List Row) (stale : List Stale) (older : List ℕ) (last : ℕ) : Type 0 where
+  pub table : IsTable rows
   pub as_many : length stale ≡ length rows
   pub as_many_older : length older ≡ length rows
   pub orders : (r : ℕ) (row : Row) → slice_get rows r ≡ Some row → row.order ≤ last

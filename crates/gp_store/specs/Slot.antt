@@ -1,65 +1,65 @@
--- One slot of the disk: the 63 octets behind its gate. The gate is octet 0 of the slot, so octet n of the slot has the
--- place n - 1 here. Numbers of more than one octet have the least significant octet first.
-use Rattle.std.specs.Prelude.{◌≡◌, ℕ, max, Bool, true, false, List, replicate, slice_index}
+-- One slot of the disk: the 63 octets behind its gate, which is octet 0 of the slot. Numbers of more than one octet have the
+-- least significant octet first.
+use Rattle.std.specs.Prelude.{◌≡◌, ℕ, ◌-◌, max, Bool, true, false, List, replicate, slice_index}
 use Rattle.std.specs.Int.{w16, w32, w64, from_le_bytes}
-use Rattle.gp_base.specs.declared.identity.Level.{Level}
-use Rattle.gp_base.specs.declared.identity.Level.TheVariants.{Two, Three}
-use Rattle.gp_base.specs.Identity.{kind_number, mode_number}
+use Rattle.gp_base.specs.Identity.{kind_number, level_number, mode_number}
 use Rattle.gp_disk.specs.Disk.{part}
 use Rattle.gp_rows.specs.declared.row.Row.{Row}
 
+-- the octet of this number of the slot, counted from the gate; and so many octets from it on
+abbrev pub octet : ℕ → List ℕ → ℕ
+octet n octets = slice_index octets (n - 1)
+
+abbrev pub octets_from : ℕ → ℕ → List ℕ → List ℕ
+octets_from n count octets = part (n - 1) count octets
+
 -- octets 1-8: the number of the commit that wrote the slot
 unfoldable pub generation : List ℕ → ℕ
-generation octets = from_le_bytes w64 (part 0 8 octets)
+generation octets = from_le_bytes w64 (octets_from 1 8 octets)
 
 -- octets 9-12: the SrcID
 unfoldable pub source : List ℕ → ℕ
-source octets = from_le_bytes w32 (part 8 4 octets)
+source octets = from_le_bytes w32 (octets_from 9 4 octets)
 
 -- octets 13-28: the key
 unfoldable pub key : List ℕ → List ℕ
-key octets = part 12 16 octets
+key octets = octets_from 13 16 octets
 
 -- octet 29: the kind of the key
 unfoldable pub kind : List ℕ → ℕ
-kind octets = slice_index octets 28
+kind octets = octet 29 octets
 
 -- octet 30: the security level
 unfoldable pub level : List ℕ → ℕ
-level octets = slice_index octets 29
+level octets = octet 30 octets
 
 -- octet 31: the mode
 unfoldable pub mode : List ℕ → ℕ
-mode octets = slice_index octets 30
+mode octets = octet 31 octets
 
 -- octets 32-33: the group
 unfoldable pub group : List ℕ → ℕ
-group octets = from_le_bytes w16 (part 31 2 octets)
+group octets = from_le_bytes w16 (octets_from 32 2 octets)
 
 -- octet 34: the DeviceID
 unfoldable pub device : List ℕ → ℕ
-device octets = slice_index octets 33
+device octets = octet 34 octets
 
 -- octet 35: whether the pairing is live
 unfoldable pub live : List ℕ → ℕ
-live octets = slice_index octets 34
+live octets = octet 35 octets
 
 -- octets 36-43: the number of the commit that last paired or revived the row
 unfoldable pub order : List ℕ → ℕ
-order octets = from_le_bytes w64 (part 35 8 octets)
+order octets = from_le_bytes w64 (octets_from 36 8 octets)
 
 -- octets 44-47: the counter floor
 unfoldable pub floor : List ℕ → ℕ
-floor octets = from_le_bytes w32 (part 43 4 octets)
+floor octets = from_le_bytes w32 (octets_from 44 4 octets)
 
 -- octets 48-63, which are zero
 unfoldable pub rest : List ℕ → List ℕ
-rest octets = part 47 16 octets
-
--- the number of a level
-abbrev pub level_number : Level → ℕ
-level_number Two = 2
-level_number Three = 3
+rest octets = octets_from 48 16 octets
 
 -- the number of whether a pairing is live
 abbrev pub live_number : Bool → ℕ

@@ -3,8 +3,8 @@ use Rattle.std.specs.Prelude.{◌≡◌, ◌<◌, ◌≤◌, ◌⊎◌, ℕ, ◌
 use Rattle.gp_base.specs.declared.identity.Level.{Level}
 use Rattle.gp_base.specs.declared.identity.KeyKind.{KeyKind}
 use Rattle.gp_base.specs.declared.identity.Mode.{Mode}
-use Rattle.gp_base.specs.Identity.{kind_number, mode_number}
-use Rattle.gp_store.specs.Slot.{generation, source, key, kind, level, mode, live, order, rest, level_number, live_number}
+use Rattle.gp_base.specs.Identity.{kind_number, level_number, mode_number}
+use Rattle.gp_store.specs.Slot.{generation, source, key, kind, level, mode, live, order, rest, live_number}
 
 -- the octets behind the gate of the even (false) or odd (true) slot of a row, where that gate is open
 abbrev pub Slots : Type 0

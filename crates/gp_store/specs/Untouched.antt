@@ -1,7 +1,7 @@
 -- What calls that only read leave of a disk.
-use Rattle.std.specs.Prelude.{◌≡◌, ◌≤◌, ◌⊎◌, ℕ, true, List, Option}
+use Rattle.std.specs.Prelude.{◌≡◌, ◌≤◌, ◌⊎◌, ℕ, Bool, true, List, Option}
 use Rattle.gp_disk.specs.Disk.{Tally, Same}
-use Rattle.gp_disk.specs.Fuse.{Fuse, burnt, Foretold}
+use Rattle.gp_disk.specs.Fuse.{Fuse, lit, burnt, Foretold}
 
 -- the counts where reads alone were made
 pub record OnlyReads (old new : Tally) : Type 0 where
@@ -29,3 +29,9 @@ pub record GoesOn (most : ℕ) (old new : Fuse) : Type 0 where
   pub at_most : count ≤ most
   pub fuse : new ≡ burnt count old
   pub all_gone : AllGone count old
+
+-- where the disk tells what is to fail: so many device calls after a `begin`, which are done exactly where they all go
+-- through, and of which the last one made alone may have failed
+pub record RunsThrough (count : ℕ) (old new : Fuse) (is_done : Bool) : Type 0 where
+  pub fuse : new ≡ burnt count (lit old)
+  pub foretold : Foretold count (lit old) is_done

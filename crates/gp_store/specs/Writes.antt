@@ -1,18 +1,21 @@
 -- What one slot's rewriting leaves of an image, at each moment of it and at its end. No public clause cites this
 -- file.
-use Rattle.std.specs.Prelude.{◌≡◌, ◌≤◌, ◌⊎◌, ◌+◌, ℕ, Bool, true, false, List, length, drop, Option, Some, None, is_some}
-use Rattle.gp_disk.specs.Disk.{Tally, IsQuiet, after_write, after_sync, part}
+use Rattle.std.specs.Prelude.{◌≡◌, ◌≤◌, ◌⊎◌, ◌+◌, ℕ, Bool, true, false, List, Option, Some, None, Result, Ok, Err, OnOk, OnErr, is_some}
+use Rattle.gp_base.specs.Outside.{one_more}
+use Rattle.gp_disk.specs.Disk.{Moment, Tally, IsQuiet, SameRun, after_write, after_sync, part, Outside}
 use Rattle.gp_rows.specs.declared.row.Row.{Row}
+use Rattle.gp_store.specs.declared.commit.Marks.{Marks}
+use Rattle.gp_store.specs.declared.fault.CommitFault.{CommitFault}
+use Rattle.gp_store.specs.declared.fault.CommitFault.TheVariants.{Worn, DiskFault}
+use Rattle.gp_store.specs.Commit.{next_generation}
 use Rattle.gp_store.specs.Slot.{Spelled}
-use Rattle.gp_store.specs.Image.{Layout, format_1, gate_at, slots_end, slots}
+use Rattle.gp_store.specs.Image.{IMAGE_SIZE, Layout, format_1, gate_at, slots}
 
--- two images of one size, with one header and the same octets behind the slots, of which each slot but this one is the
--- same
+-- two images that agree outside the octets of this slot, so that the header and each other slot are the same
 pub record OnlyAt (layout : Layout) (row : ℕ) (side : Bool) (old new : List ℕ) : Type 0 where
-  pub size : length new ≡ length old
+  pub outside : Outside (gate_at layout row side) (layout.behind + 1) old new
   pub header : part 0 8 new ≡ part 0 8 old
   pub others : (r : ℕ) (s : Bool) → ((r ≡ row) × (s ≡ side) → ⊥) → slots layout new r s ≡ slots layout old r s
-  pub behind : drop (slots_end layout) new ≡ drop (slots_end layout) old
 
 -- this slot alone may have changed: it is as before, or closed, or open with these octets
 pub record Rewrites (layout : Layout) (row : ℕ) (side : Bool) (octets old new : List ℕ) : Type 0 where
@@ -66,6 +69,16 @@ abbrev pub TellsOpen : Layout → ℕ → Bool → Bool → Option (List ℕ) �
 TellsOpen layout row side is_open None = Unit {0}
 TellsOpen layout row side is_open (Some image) = is_some (slots layout image row side) ≡ is_open
 
+-- so many device calls at most of a run, each write followed by its sync: what they leave of a disk by their answer
+pub record Steps {T E : Type 0} (most : ℕ) (result : Result T E) (old new : Moment) : Type 0 where
+  pub quiet : OnOk result (IsQuiet new.tally new.image new.may_leave)
+  pub told : is_some new.image ≡ is_some old.image
+  pub run : SameRun old.tally new.tally
+  pub good : OnOk result (new.faults ≡ old.faults)
+  pub failed : OnErr result (new.faults ≡ one_more old.faults)
+  pub alone : old.tally.calls ≡ old.tally.writes → new.tally.calls ≡ new.tally.writes
+  pub few : new.tally.writes ≤ old.tally.writes + most
+
 -- the counts after a stable write of so many octets
 abbrev pub after_stable : ℕ → Tally → Tally
 after_stable count t = after_sync (after_write count t)
@@ -86,13 +99,20 @@ rewrite_calls true = 6
 
 -- a row can be written into this slot: the disk is large enough and at rest, and tells whether the slot is open
 pub record IsWritable (tally : Tally) (image : Option (List ℕ)) (may_leave : List ℕ → Type 0) (row : ℕ) (side is_open : Bool) : Type 0 where
-  pub size : 204800 ≤ tally.size
+  pub size : IMAGE_SIZE ≤ tally.size
   pub quiet : IsQuiet tally image may_leave
   pub tells : TellsOpen format_1 row side is_open image
 
 -- since the last `begin` a crash leaves the image from before, with this slot as it was, closed, or with the octets
 abbrev pub LeavesRewritten : ℕ → Bool → List ℕ → Option (List ℕ) → (List ℕ → Type 0) → Type 0
 LeavesRewritten row side octets image left = (c : List ℕ) → left c → (d : List ℕ) × (image ≡ Some d) × Rewrites format_1 row side octets d c
+
+-- what is known beside the rows after the commit of these values: the next generation, or that the store is halted
+abbrev pub marks_after : Result (Unit {0}) CommitFault → Marks → ℕ → Row → Marks
+marks_after (Ok value) marks at row = record marks { last = next_generation marks.last }
+marks_after (Err DiskFault) marks at row = record marks { halted = true; undecided = Some (at, row) }
+marks_after (Err (Worn generation)) marks at row = record marks { halted = true }
+marks_after (Err fault) marks at row = marks
 
 -- the slot is rewritten with octets that spell this row under this generation, at each moment and where it is done
 pub record Writes (row : ℕ) (side : Bool) (value : Row) (number : ℕ) (image new : Option (List ℕ)) (left : List ℕ → Type 0) (is_done : Bool) : Type 0 where

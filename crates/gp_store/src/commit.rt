@@ -1,11 +1,12 @@
 //! The commit of one row's values.
-ghost use Rattle.std.specs.Prelude.{◌≡◌, ◌+◌, ◌<◌, ◌≤◌, false, true, length, OnOk, OnErr, is_ok};
-ghost use Rattle.gp_base.specs.Outside.{Rose};
-ghost use Rattle.gp_disk.specs.Disk.{IsQuiet, after_begin};
-ghost use Rattle.gp_disk.specs.Fuse.{burnt, lit, Foretold};
+ghost use Rattle.std.specs.Prelude.{◌≡◌, ◌+◌, ◌<◌, ◌≤◌, false, true, length, OnOk, OnErr, is_ok, is_some};
+ghost use Rattle.std.specs.Bool.{OnTrue, OnFalse};
+ghost use Rattle.gp_base.specs.Outside.{one_more};
+ghost use Rattle.gp_disk.specs.Disk.{IsQuiet};
+ghost use Rattle.gp_rows.specs.Rows.{CAPACITY};
 ghost use Rattle.gp_store.specs.Image.{format_1};
-ghost use Rattle.gp_store.specs.Writes.{Rewritten, Becomes, IsWritable, LeavesRewritten, Writes, after_rewrite, rewrite_calls};
-ghost use Rattle.gp_store.specs.Commit.{HasReason, OnMade, OnNotMade, OnDiskFault, halted_after, undecided_after, last_after, RunsOnce, WritesAlone, KeepsBehind};
+ghost use Rattle.gp_store.specs.Writes.{Rewritten, Becomes, IsWritable, LeavesRewritten, Writes, marks_after};
+ghost use Rattle.gp_store.specs.Commit.{HasReason, HasCause, WritesOnce, Burns, is_made, next_generation};
 
 use crate::codec::spell;
 use crate::fault::CommitFault;
@@ -37,21 +38,17 @@ pub struct Stale {
 
 // Rewrites one slot in a run of calls of its own.
 fn rewrite<D: Disk>(disk: &mut D, slot: Slot, is_open: bool, octets: &[u8]) -> Result<(), Failed>
-    requires row { slot.row < 1024 }
+    requires row { slot.row < CAPACITY }
     requires octets { length octets.now ≡ 63 }
     requires writable { IsWritable (D.tally disk.old) (D.image disk.old) (D.may_leave disk.old) slot.row slot.odd is_open }
     ensures moments { LeavesRewritten slot.row slot.odd octets.now (D.image disk.old) (D.left disk.new) }
-    ensures behind { KeepsBehind (D.image disk.old) (D.left disk.new) }
     ensures written { OnOk result (Becomes (Rewritten format_1 slot.row slot.odd octets.now) (D.image disk.old) (D.image disk.new)) }
     ensures quiet { OnOk result (IsQuiet (D.tally disk.new) (D.image disk.new) (D.may_leave disk.new)) }
-    ensures run { RunsOnce (D.tally disk.old) (D.tally disk.new) }
-    ensures tally { OnOk result (D.tally disk.new ≡ after_rewrite is_open (after_begin (D.tally disk.old))) }
+    ensures run { WritesOnce (D.tally disk.old) (D.tally disk.new) (is_ok result) }
     ensures good { OnOk result (D.faults disk.new ≡ D.faults disk.old) }
-    ensures failed { OnErr result (Rose (D.faults disk.old) (D.faults disk.new)) }
-    ensures kept { D.faults disk.old ≤ D.faults disk.new }
-    ensures calls { WritesAlone (D.tally disk.new) }
-    ensures fuse { D.fuse disk.new ≡ burnt (rewrite_calls is_open) (lit (D.fuse disk.old)) }
-    ensures foretold { Foretold (rewrite_calls is_open) (lit (D.fuse disk.old)) (is_ok result) }
+    ensures failed { OnErr result (D.faults disk.new ≡ one_more (D.faults disk.old)) }
+    ensures fuse { Burns (D.fuse disk.old) (D.fuse disk.new) (is_ok result) }
+    ensures told { is_some (D.image disk.new) ≡ is_some (D.image disk.old) }
 {
     disk.begin();
     write_slot(disk, slot, is_open, octets)
@@ -65,23 +62,17 @@ pub fn write_row<D: Disk>(
     at: u16,
     row: &Row,
 ) -> Result<(), CommitFault>
-    requires row { at < 1024 }
+    requires row { at < CAPACITY }
     requires writable { marks.old.halted ≡ false → IsWritable (D.tally disk.old) (D.image disk.old) (D.may_leave disk.old) at stale.odd stale.is_open }
     ensures reason { HasReason result marks.old.halted ⊥ marks.old.last }
-    ensures writes { OnMade result (Writes at stale.odd row.now (marks.old.last + 1) (D.image disk.old) (D.image disk.new) (D.left disk.new) (is_ok result)) }
-    ensures behind { OnMade result (KeepsBehind (D.image disk.old) (D.left disk.new)) }
+    ensures writes { OnTrue (is_made result) (Writes at stale.odd row.now (next_generation marks.old.last) (D.image disk.old) (D.image disk.new) (D.left disk.new) (is_ok result)) }
     ensures quiet { OnOk result (IsQuiet (D.tally disk.new) (D.image disk.new) (D.may_leave disk.new)) }
-    ensures run { OnMade result (RunsOnce (D.tally disk.old) (D.tally disk.new)) }
-    ensures tally { OnOk result (D.tally disk.new ≡ after_rewrite stale.is_open (after_begin (D.tally disk.old))) }
-    ensures calls { OnMade result (WritesAlone (D.tally disk.new)) }
-    ensures untouched { OnNotMade result (disk.new ≡ disk.old) }
-    ensures good { OnOk result (D.faults disk.new ≡ D.faults disk.old) }
-    ensures failed { OnDiskFault result (Rose (D.faults disk.old) (D.faults disk.new)) }
-    ensures fuse { OnMade result (D.fuse disk.new ≡ burnt (rewrite_calls stale.is_open) (lit (D.fuse disk.old))) }
-    ensures foretold { OnMade result (Foretold (rewrite_calls stale.is_open) (lit (D.fuse disk.old)) (is_ok result)) }
-    ensures halted { marks.new.halted ≡ halted_after result marks.old.halted }
-    ensures undecided { marks.new.undecided ≡ undecided_after result marks.old.undecided at row.now }
-    ensures last { marks.new.last ≡ last_after result marks.old.last }
+    ensures run { OnTrue (is_made result) (WritesOnce (D.tally disk.old) (D.tally disk.new) (is_ok result)) }
+    ensures cause { HasCause result (D.faults disk.old) (D.faults disk.new) }
+    ensures fuse { OnTrue (is_made result) (Burns (D.fuse disk.old) (D.fuse disk.new) (is_ok result)) }
+    ensures told { is_some (D.image disk.new) ≡ is_some (D.image disk.old) }
+    ensures marks { marks.new ≡ marks_after result marks.old at row.now }
+    ensures untouched { OnFalse (is_made result) (disk.new ≡ disk.old) }
 {
     if marks.halted {
         return Err(CommitFault::Halted);

@@ -1,5 +1,6 @@
 //! What a reading of the slots has found so far.
 ghost use Rattle.std.specs.Prelude.{◌≤◌, vec_capacity};
+ghost use Rattle.gp_rows.specs.Rows.{CAPACITY};
 
 use crate::commit::Stale;
 use gp_rows::Table;
@@ -15,6 +16,6 @@ pub struct Found {
     pub older: Vec<u64>,
     /// The greatest generation.
     pub last: u64,
-    ghost room: { 1024 ≤ vec_capacity stale },
-    ghost room_older: { 1024 ≤ vec_capacity older },
+    ghost room: { CAPACITY ≤ vec_capacity stale },
+    ghost room_older: { CAPACITY ≤ vec_capacity older },
 }

@@ -1,15 +1,16 @@
 //! One row is read from the disk.
-ghost use Rattle.std.specs.Prelude.{◌≡◌, ◌+◌, ◌<◌, ◌≤◌, ℕ, true, false, List, length, Some, None, OnOk, OnErr, IfOk, IfSome, IsSome};
-ghost use Rattle.gp_base.specs.Outside.{Rose};
+ghost use Rattle.std.specs.Prelude.{◌≡◌, ◌<◌, ◌≤◌, ℕ, true, false, List, Ok, Some, None, OnOk, OnErr, IfOk, IfSome, IsSome};
+ghost use Rattle.gp_base.specs.Outside.{one_more};
 ghost use Rattle.gp_disk.specs.Fuse.{burnt, Foretold};
 ghost use Rattle.gp_store.specs.Slot.{Shows};
 ghost use Rattle.gp_store.specs.Slots.{IsFormed, newer};
 ghost use Rattle.gp_store.specs.Reading.{slot_of};
 ghost use Rattle.gp_store.specs.Recovery.{Told};
 ghost use Rattle.gp_store.specs.Untouched.{OnlyReads, IsKeptAsIs, GoesOn};
-ghost use Rattle.gp_store.specs.Held.{HoldsSome, IsRowOf};
+ghost use Rattle.gp_rows.specs.Rows.{CAPACITY};
+ghost use Rattle.gp_store.specs.Held.{IsRowOf, held_calls};
 
-use crate::decode::{formed, generation_of};
+use crate::codec::{formed, generation_of};
 use crate::layout::{ROWS, SIZE};
 use crate::octets::ReadSlot;
 use crate::rows::read_pair;
@@ -37,20 +38,22 @@ fn newest_of(even: &ReadSlot, odd: &ReadSlot) -> Option<Row>
     }
 }
 
-/// Reads row `at` of the rows that the disk holds, by at most two calls; None where it holds fewer.
+/// Reads row `at` of the rows that the disk holds, by at most two calls; None where it holds fewer. Where what a read gives
+/// holds no rows, the answer says nothing.
 ///
-/// What a read gives holds rows. Nothing is written, and no memory is taken. Failed comes where a call of the disk has
-/// failed; for `at` of 1,024 or more there is none.
+/// Nothing is written, and no memory is taken. Failed comes where a call of the disk has failed; for `at` of 1,024 or more
+/// there is none.
+#[tactic(auto, unfolding(crate::specs::Held::held_calls))]
 pub fn held<D: Disk>(disk: &mut D, at: u16) -> Result<Option<Row>, Failed>
-    requires { Told (D.image disk.old) HoldsSome }
     ensures row { IfOk result (λ row. Told (D.image disk.old) (λ d. IsRowOf d at row)) }
     ensures kept { IsKeptAsIs (D.image disk.old) (D.image disk.new) (D.may_leave disk.old) (D.may_leave disk.new) (D.left disk.old) (D.left disk.new) }
+    ensures beyond { CAPACITY ≤ at → (result ≡ Ok None) × (disk.new ≡ disk.old) }
     ensures reads { OnlyReads (D.tally disk.old) (D.tally disk.new) }
     ensures good { OnOk result (D.faults disk.new ≡ D.faults disk.old) }
-    ensures failed { OnErr result (Rose (D.faults disk.old) (D.faults disk.new)) }
-    ensures fuse { OnOk result (GoesOn 2 (D.fuse disk.old) (D.fuse disk.new)) }
-    ensures fuse_failed { OnErr result (D.fuse disk.new ≡ burnt 2 (D.fuse disk.old)) }
-    ensures not_gone { OnErr result (Foretold 2 (D.fuse disk.old) false) }
+    ensures failed { OnErr result (D.faults disk.new ≡ one_more (D.faults disk.old)) }
+    ensures fuse { OnOk result (GoesOn held_calls (D.fuse disk.old) (D.fuse disk.new)) }
+    ensures fuse_failed { OnErr result (D.fuse disk.new ≡ burnt held_calls (D.fuse disk.old)) }
+    ensures not_gone { OnErr result (Foretold held_calls (D.fuse disk.old) false) }
 {
     if at >= ROWS {
         return Ok(None);

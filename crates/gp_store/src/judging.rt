@@ -1,9 +1,9 @@
 //! Whether the open slots of a row break a rule, by what was read before.
-ghost use Rattle.std.specs.Prelude.{◌≡◌, ◌≢◌, ◌↔◌, ◌+◌, ◌<◌, ◌≤◌, ℕ, Bool, true, false, List, length, slice_get, IsTrue, MatchOption, Some, None, slice_index};
-ghost use Rattle.gp_store.specs.Slot.{source, key, order, Shows};
+ghost use Rattle.std.specs.Prelude.{◌≡◌, ◌↔◌, ◌<◌, true, false, length, IsTrue, MatchOption, Some, None};
+ghost use Rattle.gp_store.specs.Slot.{Shows};
 ghost use Rattle.gp_store.specs.Reading.{IsOther, IsNewAmong, IsJudged};
 
-use crate::decode::formed;
+use crate::codec::formed;
 use gp_rows::{Row, Table};
 
 // The row has another key and another order than this one, or another SrcID, and so has its older slot.

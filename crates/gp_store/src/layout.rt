@@ -1,5 +1,6 @@
 //! Where things stand on the disk.
 ghost use Rattle.std.specs.Prelude.{◌≡◌, ◌<◌, ◌≤◌, ◌+◌};
+ghost use Rattle.gp_rows.specs.Rows.{CAPACITY};
 ghost use Rattle.gp_store.specs.Slots.{slot_number};
 ghost use Rattle.gp_store.specs.Image.{gate_at, format_1};
 
@@ -10,7 +11,7 @@ pub const OPEN: u8 = 0xA5;
 pub const SIZE: u64 = 204_800;
 
 /// The most rows that there are.
-pub const ROWS: u16 = 1024;
+pub use gp_rows::ROWS;
 
 /// One of the two slots of a row: the one of the even or the one of the odd number.
 #[derive(Clone, Copy, Debug, PartialEq, Eq)]
@@ -33,7 +34,7 @@ impl Slot {
 
     /// The place of its gate.
     pub fn gate(self) -> u64
-        requires { self.row < 1024 }
+        requires { self.row < CAPACITY }
         ensures place { result ≡ gate_at format_1 self.row self.odd }
         ensures first { 4096 ≤ result }
         ensures within { result + 64 ≤ 135168 }

@@ -1,20 +1,19 @@
 //! Pairings and counter floors that survive a power cut.
 //! To the layer above, a store is its rows, its last generation, its disk, whether it is halted, and what is undecided
 //! (`State`). At each moment of a commit a crash leaves a disk that holds the rows from before it or those with its one
-//! change (`Survives`), and a recovery gives exactly the rows that the disk holds (`Holds`).
+//! change (`Commits`), and a recovery gives exactly the rows that the disk holds (`Holds`).
 #![tactic(auto)]
 
 mod codec;
 mod commit;
-mod decode;
 mod fault;
 mod formatting;
 mod found;
 mod holding;
 mod judging;
+mod keeper;
 mod layout;
 mod octets;
-mod pairs;
 mod reading;
 mod recovery;
 mod rows;
@@ -26,6 +25,3 @@ pub use fault::{CommitFault, Refused, StoreFault};
 pub use formatting::format;
 pub use holding::held;
 pub use store::Store;
-
-#[cfg(test)]
-mod tests;

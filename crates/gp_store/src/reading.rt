@@ -1,12 +1,12 @@
 //! The rows are read from their slots.
-ghost use Rattle.std.specs.Prelude.{◌≡◌, ◌↔◌, ◌+◌, ◌<◌, ◌≤◌, ℕ, max, Bool, true, false, List, [], ◌∷◌, ◌++◌, length, IsTrue, MatchOption, Some, None, vec_capacity};
-ghost use Rattle.gp_rows.specs.Rows.{IsNewPair, IsNewOrder};
+ghost use Rattle.std.specs.Prelude.{◌≡◌, ◌↔◌, ◌+◌, ◌<◌, ◌≤◌, true, false, [], ◌∷◌, ◌++◌, length, IsTrue, MatchOption, Some, None, vec_capacity};
+ghost use Rattle.gp_rows.specs.Rows.{CAPACITY, IsNewPair, IsNewOrder};
 ghost use Rattle.gp_store.specs.Slot.{Shows};
 ghost use Rattle.gp_store.specs.Slots.{Slots, other_side};
 ghost use Rattle.gp_store.specs.Reading.{FoundOf, Reads, EndsIll, IsJudged, Finds, slot_of};
 
+use crate::codec::generation_of;
 use crate::commit::Stale;
-use crate::decode::generation_of;
 use crate::found::Found;
 use crate::judging::judge;
 use crate::octets::ReadSlot;
@@ -23,7 +23,7 @@ pub fn put_last<T: Drop>(list: &mut Vec<T>, item: T)
 
 // Puts a row at the end of a table that has room.
 pub fn put_row(table: &mut Table, row: Row)
-    requires few { length table.old < 1024 }
+    requires few { length table.old < CAPACITY }
     requires pair { IsNewPair table.old row }
     requires order { IsNewOrder table.old row }
     ensures { table.new ≡ table.old ++ row ∷ [] }
@@ -33,7 +33,7 @@ pub fn put_row(table: &mut Table, row: Row)
 
 // One row more is found, by the octets of its newest slot, with its stale slot and the order in that one.
 fn add(found: &mut Found, at: u16, octets: &[u8], row: Row, stale: Stale, older: u64)
-    requires at { at < 1024 }
+    requires at { at < CAPACITY }
     requires size { length octets.now ≡ 63 }
     requires judged { IsJudged found.old.table found.old.older.items at octets.now }
     requires shows { Shows octets.now 0 row }
@@ -59,7 +59,7 @@ fn judged(found: &Found, at: u16, octets: &[u8]) -> Option<Row>
 
 // Takes a row of which one slot is open, or answers the side of an ill slot.
 fn take_one(found: &mut Found, at: u16, octets: &[u8], odd: bool) -> Option<bool>
-    requires at { at < 1024 }
+    requires at { at < CAPACITY }
     requires size { length octets.now ≡ 63 }
     requires found { FoundOf found.old }
     ensures found { FoundOf found.new }
@@ -88,7 +88,7 @@ fn is_same_pair(first: &Row, second: &Row) -> bool
 
 // Takes a row of which both slots are open, or answers the side of the smallest ill slot.
 fn take_two(found: &mut Found, at: u16, even: &[u8], odd: &[u8]) -> Option<bool>
-    requires at { at < 1024 }
+    requires at { at < CAPACITY }
     requires size_even { length even.now ≡ 63 }
     requires size_odd { length odd.now ≡ 63 }
     requires found { FoundOf found.old }
@@ -131,7 +131,7 @@ fn take_two(found: &mut Found, at: u16, even: &[u8], odd: &[u8]) -> Option<bool>
 
 /// Takes a row by its two slots, or answers the side of the smallest ill one.
 pub fn take_row(found: &mut Found, at: u16, even: &ReadSlot, odd: &ReadSlot) -> Option<bool>
-    requires at { at < 1024 }
+    requires at { at < CAPACITY }
     requires found { FoundOf found.old }
     ensures found { FoundOf found.new }
     ensures reads { MatchOption result

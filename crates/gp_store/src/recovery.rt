@@ -1,13 +1,14 @@
 //! A disk is read after a restart.
-ghost use Rattle.std.specs.Prelude.{◌≡◌, ◌≢◌, ◌↔◌, ◌+◌, ◌<◌, ◌≤◌, ℕ, Bool, true, false, List, [], Some, Err, OnOk, OnErr, IfOk, IsTrue, MatchResult, IfErr, is_ok};
-ghost use Rattle.gp_base.specs.Outside.{Rose};
-ghost use Rattle.gp_disk.specs.Disk.{IsQuiet, after_begin};
+ghost use Rattle.std.specs.Prelude.{◌≡◌, ◌≢◌, ◌↔◌, ◌<◌, ◌≤◌, ℕ, true, false, List, Err, OnOk, OnErr, IfOk, IsTrue, IfErr, is_ok};
+ghost use Rattle.gp_base.specs.Outside.{one_more};
+ghost use Rattle.gp_disk.specs.Disk.{IsQuiet};
 ghost use Rattle.gp_disk.specs.Fuse.{lit, burnt, Foretold};
 ghost use Rattle.gp_store.specs.declared.fault.StoreFault.TheVariants.{DiskFault};
-ghost use Rattle.gp_store.specs.Image.{slots, format_1, IsFormatted};
+ghost use Rattle.gp_store.specs.Image.{IMAGE_SIZE, slots, format_1, IsFormatted};
 ghost use Rattle.gp_store.specs.Reading.{FoundOf, Reads};
-ghost use Rattle.gp_store.specs.Recovery.{Told, Refuses, OnNotBegun, WritesNothing};
+ghost use Rattle.gp_store.specs.Recovery.{Told, Refuses, begun, WritesNothing};
 ghost use Rattle.gp_store.specs.Untouched.{OnlyReads, IsKeptAsIs, GoesOn};
+ghost use Rattle.gp_rows.specs.Rows.{CAPACITY};
 
 use crate::fault::StoreFault;
 use crate::found::Found;
@@ -45,12 +46,12 @@ pub fn room(alloc: Global) -> Result<Found, NoMemory>
 
 // Reads whether the disk is formatted, by one call.
 fn read_header<D: Disk>(disk: &mut D) -> Result<bool, Failed>
-    requires size { 204800 ≤ (D.tally disk.old).size }
+    requires size { IMAGE_SIZE ≤ (D.tally disk.old).size }
     ensures header { IfOk result (λ is_formatted. Told (D.image disk.old) (λ d. IsTrue is_formatted ↔ IsFormatted d)) }
     ensures kept { IsKeptAsIs (D.image disk.old) (D.image disk.new) (D.may_leave disk.old) (D.may_leave disk.new) (D.left disk.old) (D.left disk.new) }
     ensures reads { OnlyReads (D.tally disk.old) (D.tally disk.new) }
     ensures good { OnOk result (D.faults disk.new ≡ D.faults disk.old) }
-    ensures failed { OnErr result (Rose (D.faults disk.old) (D.faults disk.new)) }
+    ensures failed { OnErr result (D.faults disk.new ≡ one_more (D.faults disk.old)) }
     ensures fuse { D.fuse disk.new ≡ burnt 1 (D.fuse disk.old) }
     ensures foretold { Foretold 1 (D.fuse disk.old) (is_ok result) }
 {
@@ -67,7 +68,7 @@ pub fn settle<D: Disk>(disk: &mut D) -> Result<(), Failed>
     ensures settled { OnOk result ((D.tally disk.new).unsettled ≡ false) }
     ensures counts { WritesNothing (D.tally disk.old) (D.tally disk.new) }
     ensures good { OnOk result (D.faults disk.new ≡ D.faults disk.old) }
-    ensures failed { OnErr result (Rose (D.faults disk.old) (D.faults disk.new)) }
+    ensures failed { OnErr result (D.faults disk.new ≡ one_more (D.faults disk.old)) }
     ensures fuse { D.fuse disk.new ≡ burnt 1 (lit (D.fuse disk.old)) }
     ensures foretold { Foretold 1 (lit (D.fuse disk.old)) (is_ok result) }
 {
@@ -77,19 +78,19 @@ pub fn settle<D: Disk>(disk: &mut D) -> Result<(), Failed>
 
 /// Reads the rows of a disk that is large enough, in a run of 2,050 calls where none fails.
 pub fn read_disk<D: Disk>(disk: &mut D, found: &mut Found) -> Result<(), StoreFault>
-    requires size { 204800 ≤ (D.tally disk.old).size }
+    requires size { IMAGE_SIZE ≤ (D.tally disk.old).size }
     requires found { FoundOf found.old }
     requires reads { (d : List ℕ) → Reads (slots format_1 d) 0 found.old }
     ensures found { FoundOf found.new }
-    ensures rows { OnOk result (Told (D.image disk.old) (λ d. IsFormatted d × Reads (slots format_1 d) 1024 found.new)) }
+    ensures rows { OnOk result (Told (D.image disk.old) (λ d. IsFormatted d × Reads (slots format_1 d) CAPACITY found.new)) }
     ensures refuses { IfErr result (λ fault. Refuses fault (D.tally disk.old).size (D.image disk.old)) }
-    ensures begun { IfErr result (λ fault. OnNotBegun fault ⊥) }
+    ensures begun { IfErr result (λ fault. begun fault ≡ true) }
     ensures image { D.image disk.new ≡ D.image disk.old }
     ensures since { (c : List ℕ) → D.left disk.new c → D.may_leave disk.old c }
     ensures quiet { OnOk result (IsQuiet (D.tally disk.new) (D.image disk.new) (D.may_leave disk.new)) }
     ensures counts { WritesNothing (D.tally disk.old) (D.tally disk.new) }
     ensures good { result ≢ Err DiskFault → D.faults disk.new ≡ D.faults disk.old }
-    ensures failed { result ≡ Err DiskFault → Rose (D.faults disk.old) (D.faults disk.new) }
+    ensures failed { result ≡ Err DiskFault → D.faults disk.new ≡ one_more (D.faults disk.old) }
     ensures fuse { OnOk result (D.fuse disk.new ≡ burnt 2050 (lit (D.fuse disk.old))) }
     ensures fuse_failed { result ≡ Err DiskFault → D.fuse disk.new ≡ burnt 2050 (lit (D.fuse disk.old)) }
     ensures fuse_refused { result ≢ Err DiskFault → GoesOn 2050 (lit (D.fuse disk.old)) (D.fuse disk.new) }

@@ -1,11 +1,12 @@
 //! All the rows are read from the disk.
-ghost use Rattle.std.specs.Prelude.{◌≡◌, ◌≢◌, ◌+◌, ◌<◌, ◌≤◌, ℕ, Bool, true, false, List, [], length, Some, OnOk, OnErr, IfOk, MatchResult, Err, is_ok};
-ghost use Rattle.gp_base.specs.Outside.{Rose};
+ghost use Rattle.std.specs.Prelude.{◌≡◌, ◌≢◌, ◌+◌, ◌<◌, ◌≤◌, ℕ, Bool, true, false, List, Some, OnOk, OnErr, IfOk, MatchResult, Err, is_ok};
+ghost use Rattle.gp_base.specs.Outside.{one_more};
 ghost use Rattle.gp_disk.specs.Fuse.{burnt, Foretold};
 ghost use Rattle.gp_store.specs.declared.rows.RowFault.TheVariants.{Failing, Ill};
-ghost use Rattle.gp_store.specs.Image.{slots, format_1};
+ghost use Rattle.gp_store.specs.Image.{IMAGE_SIZE, slots, format_1};
 ghost use Rattle.gp_store.specs.Reading.{FoundOf, Reads, EndsIll, slot_of};
-ghost use Rattle.gp_store.specs.Untouched.{OnlyReads, IsKeptAsIs, AllGone, GoesOn};
+ghost use Rattle.gp_store.specs.Untouched.{OnlyReads, IsKeptAsIs, GoesOn};
+ghost use Rattle.gp_rows.specs.Rows.{CAPACITY};
 
 use crate::found::Found;
 use crate::layout::{ROWS, Slot};
@@ -26,14 +27,14 @@ pub enum RowFault {
 
 // Reads the two slots of a row, by two calls.
 pub fn read_pair<D: Disk>(disk: &mut D, at: u16) -> Result<(ReadSlot, ReadSlot), Failed>
-    requires size { 204800 ≤ (D.tally disk.old).size }
-    requires row { at < 1024 }
+    requires size { IMAGE_SIZE ≤ (D.tally disk.old).size }
+    requires row { at < CAPACITY }
     ensures even { IfOk result (λ p. (d : List ℕ) → D.image disk.old ≡ Some d → slots format_1 d at false ≡ slot_of p.0.is_open p.0.octets.items) }
     ensures odd { IfOk result (λ p. (d : List ℕ) → D.image disk.old ≡ Some d → slots format_1 d at true ≡ slot_of p.1.is_open p.1.octets.items) }
     ensures kept { IsKeptAsIs (D.image disk.old) (D.image disk.new) (D.may_leave disk.old) (D.may_leave disk.new) (D.left disk.old) (D.left disk.new) }
     ensures reads { OnlyReads (D.tally disk.old) (D.tally disk.new) }
     ensures good { OnOk result (D.faults disk.new ≡ D.faults disk.old) }
-    ensures failed { OnErr result (Rose (D.faults disk.old) (D.faults disk.new)) }
+    ensures failed { OnErr result (D.faults disk.new ≡ one_more (D.faults disk.old)) }
     ensures fuse { D.fuse disk.new ≡ burnt 2 (D.fuse disk.old) }
     ensures foretold { Foretold 2 (D.fuse disk.old) (is_ok result) }
 {
@@ -50,8 +51,8 @@ pub fn read_pair<D: Disk>(disk: &mut D, at: u16) -> Result<(ReadSlot, ReadSlot),
 
 // Reads one row more.
 fn read_row<D: Disk>(disk: &mut D, at: u16, found: &mut Found) -> Result<(), RowFault>
-    requires size { 204800 ≤ (D.tally disk.old).size }
-    requires row { at < 1024 }
+    requires size { IMAGE_SIZE ≤ (D.tally disk.old).size }
+    requires row { at < CAPACITY }
     requires found { FoundOf found.old }
     ensures found { FoundOf found.new }
     ensures rows { (d : List ℕ) → D.image disk.old ≡ Some d → Reads (slots format_1 d) at found.old
@@ -59,7 +60,7 @@ fn read_row<D: Disk>(disk: &mut D, at: u16, found: &mut Found) -> Result<(), Row
     ensures kept { IsKeptAsIs (D.image disk.old) (D.image disk.new) (D.may_leave disk.old) (D.may_leave disk.new) (D.left disk.old) (D.left disk.new) }
     ensures reads { OnlyReads (D.tally disk.old) (D.tally disk.new) }
     ensures good { result ≢ Err Failing → D.faults disk.new ≡ D.faults disk.old }
-    ensures failed { result ≡ Err Failing → Rose (D.faults disk.old) (D.faults disk.new) }
+    ensures failed { result ≡ Err Failing → D.faults disk.new ≡ one_more (D.faults disk.old) }
     ensures fuse { D.fuse disk.new ≡ burnt 2 (D.fuse disk.old) }
     ensures gone { result ≢ Err Failing → Foretold 2 (D.fuse disk.old) true }
     ensures not_gone { result ≡ Err Failing → Foretold 2 (D.fuse disk.old) false }
@@ -76,15 +77,15 @@ fn read_row<D: Disk>(disk: &mut D, at: u16, found: &mut Found) -> Result<(), Row
 
 /// Reads all the rows, by 2,048 calls where none fails.
 pub fn read_rows<D: Disk>(disk: &mut D, found: &mut Found) -> Result<(), RowFault>
-    requires size { 204800 ≤ (D.tally disk.old).size }
+    requires size { IMAGE_SIZE ≤ (D.tally disk.old).size }
     requires found { FoundOf found.old }
     ensures found { FoundOf found.new }
     ensures rows { (d : List ℕ) → D.image disk.old ≡ Some d → Reads (slots format_1 d) 0 found.old
-        → MatchResult result (λ _. Reads (slots format_1 d) 1024 found.new) (λ fault. (row : ℕ) (odd : Bool) → fault ≡ Ill row odd → (row < 1024) × EndsIll (slots format_1 d) row odd) }
+        → MatchResult result (λ _. Reads (slots format_1 d) CAPACITY found.new) (λ fault. (row : ℕ) (odd : Bool) → fault ≡ Ill row odd → (row < CAPACITY) × EndsIll (slots format_1 d) row odd) }
     ensures kept { IsKeptAsIs (D.image disk.old) (D.image disk.new) (D.may_leave disk.old) (D.may_leave disk.new) (D.left disk.old) (D.left disk.new) }
     ensures reads { OnlyReads (D.tally disk.old) (D.tally disk.new) }
     ensures good { result ≢ Err Failing → D.faults disk.new ≡ D.faults disk.old }
-    ensures failed { result ≡ Err Failing → Rose (D.faults disk.old) (D.faults disk.new) }
+    ensures failed { result ≡ Err Failing → D.faults disk.new ≡ one_more (D.faults disk.old) }
     ensures fuse { OnOk result (D.fuse disk.new ≡ burnt 2048 (D.fuse disk.old)) }
     ensures fuse_failed { result ≡ Err Failing → D.fuse disk.new ≡ burnt 2048 (D.fuse disk.old) }
     ensures fuse_ill { result ≢ Err Failing → GoesOn 2048 (D.fuse disk.old) (D.fuse disk.new) }

@@ -1,38 +1,32 @@
 //! The store of a sink: its rows in memory, and the disk that keeps them.
-ghost use Rattle.std.specs.Prelude.{◌≡◌, ◌≢◌, ◌⊎◌, ◌+◌, ◌<◌, ◌≤◌, ℕ, false, true, List, length, OnOk, OnErr, IfOk, IfErr, MatchResult, is_ok, slice_get, Some, None};
-ghost use Rattle.gp_base.specs.Outside.{Rose};
+ghost use Rattle.std.specs.Prelude.{◌≡◌, ◌-◌, ◌<◌, ◌≤◌, false, true, IfOk, IfErr, Some, None};
 ghost use Rattle.gp_disk.specs.Disk.{IsQuiet};
-ghost use Rattle.gp_disk.specs.Fuse.{lit, burnt, Foretold};
-ghost use Rattle.gp_rows.specs.Rows.{IsBelow, IsNewPair, with_floor, retired_row, raised, retired};
-ghost use Rattle.gp_store.specs.Commit.{HasReason, OnMade, OnNotMade, OnDiskFault, halted_after, undecided_after, last_after, RunsOnce, Survives, KeepsBehind, Stands, WritesAlone, Burns};
-ghost use Rattle.gp_store.specs.declared.fault.StoreFault.TheVariants.{DiskFault as DiskHasFailed};
-ghost use Rattle.gp_store.specs.Image.{HoldsRows, HasLast};
+ghost use Rattle.gp_rows.specs.Rows.{IsBelow, IsPair, IsNewPair, IsTable, AreWithin};
+ghost use Rattle.gp_rows.specs.Changes.{Pairs, Raises, Retires, place};
+ghost use Rattle.gp_store.specs.Commit.{Commits, Stands, ordered, plain};
 ghost use Rattle.gp_store.specs.Kept.{IsTold};
 ghost use Rattle.gp_store.specs.Reading.{FoundOf};
-ghost use Rattle.gp_store.specs.Pairing.{IsPairOf, PairsAs, AreWithin, with_row};
-ghost use Rattle.gp_store.specs.Recovery.{Told, Refuses, OnBegun, OnNotBegun, WritesNothing};
-ghost use Rattle.gp_store.specs.Untouched.{GoesOn};
+ghost use Rattle.gp_store.specs.Recovery.{Told, Recovered, RefusedToRecover};
+ghost use Rattle.gp_store.specs.Image.{IMAGE_SIZE};
 
-use crate::commit::{Marks, Stale, write_row};
+use crate::commit::Marks;
 use crate::fault::{CommitFault, Refused, StoreFault};
 use crate::found::Found;
-use crate::layout::{ROWS, SIZE};
-use crate::pairs::pair_of;
-use crate::reading::{put_last, put_row};
+use crate::keeper::Keeper;
+use crate::layout::SIZE;
+use crate::reading::put_row;
 use crate::recovery::{read_disk, room};
 use gp_base::NoMemory;
 use gp_disk::{Disk, MemoryDisk};
-use gp_rows::{Row, Table};
+use gp_rows::{ROWS, Row, Table};
 use std::alloc::Global;
 use std::marker::Model;
 
 /// The pairings and counter floors of one sink, over a disk that keeps them through a power cut.
 #[derive(Drop)]
 pub struct Store<D: Disk> {
-    disk: D,
     table: Table,
-    stale: Vec<Stale>,
-    marks: Marks,
+    keeper: Keeper<D>,
 }
 
 impl<D: Disk> Model for Store<D> {
@@ -41,17 +35,17 @@ impl<D: Disk> Model for Store<D> {
 
     ghost Value = { State D };
 
-    ghost use Rattle.gp_store.specs.Kept.{IsKept};
+    ghost use Rattle.gp_store.specs.Kept.{IsKept, state_of};
 
-    ghost view = { λ s. record { disk = s.disk; rows = s.table; last = s.marks.last; halted = s.marks.halted; undecided = s.marks.undecided } };
+    ghost view = { λ s. state_of s.keeper.disk s.table s.keeper.marks };
 
-    ghost invariant = { λ s. IsKept (D.tally s.disk) (D.image s.disk) (D.may_leave s.disk) s.table s.stale.items (vec_capacity s.stale) s.marks };
+    ghost invariant = { λ s. IsKept (D.tally s.keeper.disk) (D.image s.keeper.disk) (D.may_leave s.keeper.disk) s.table s.keeper.stale.items (vec_capacity s.keeper.stale) s.keeper.marks };
 }
 
 // The store of what was read from a disk.
 fn stored<D: Disk>(disk: D, found: Found) -> Store<D>
     requires found { FoundOf found }
-    requires size { 204800 ≤ (D.tally disk).size }
+    requires size { IMAGE_SIZE ≤ (D.tally disk).size }
     requires quiet { IsQuiet (D.tally disk) (D.image disk) (D.may_leave disk) }
     requires told { Told (D.image disk) (λ d. IsTold d found.table found.stale.items found.last) }
     ensures { result ≡ record { disk = disk; rows = found.table; last = found.last; halted = false; undecided = None } }
@@ -68,42 +62,22 @@ fn stored<D: Disk>(disk: D, found: Found) -> Store<D>
         undecided: None,
     };
     Store {
-        disk,
         table,
-        stale,
-        marks,
+        keeper: Keeper { disk, stale, marks },
     }
 }
 
 impl<D: Disk> Store<D> {
-    /// Reads the rows of a disk after a restart. It needs memory for 1,024 rows, and writes nothing.
+    /// Reads the rows of a disk after a restart: the one list of rows that what a read gives holds. It needs memory for
+    /// 1,024 rows, and writes nothing.
     ///
     /// NoMemory comes first, where there isn't that memory. A disk of fewer than 204,800 octets is DiskShort, one whose
     /// header isn't that of a formatted disk NotFormatted, and SlotForm names the smallest open slot that breaks a rule.
     /// DiskFault comes behind DiskShort, where the disk has failed. A refusal hands the disk back.
+    #[tactic(auto, unfolding(crate::specs::Recovery::recovery_calls))]
     pub fn recover(alloc: Global, disk: D) -> Result<Store<D>, Refused<D>>
-        ensures rows { IfOk result (λ store. Told (D.image disk) (λ d. HoldsRows d store.rows × HasLast d store.last)) }
-        ensures stands { IfOk result (λ store. Stands (D.may_leave store.disk) store.rows store.last) }
-        ensures running { IfOk result (λ store. (store.halted ≡ false) × (store.undecided ≡ None)) }
-        ensures refuses { IfErr result (λ refused. Refuses refused.fault (D.tally disk).size (D.image disk)) }
-        ensures since { MatchResult result
-            (λ store. (c : List ℕ) → D.left store.disk c → D.may_leave disk c)
-            (λ refused. OnBegun refused.fault ((c : List ℕ) → D.left refused.disk c → D.may_leave disk c)) }
-        ensures image { MatchResult result (λ store. D.image store.disk ≡ D.image disk) (λ refused. D.image refused.disk ≡ D.image disk) }
-        ensures quiet { IfOk result (λ store. IsQuiet (D.tally store.disk) (D.image store.disk) (D.may_leave store.disk)) }
-        ensures large { IfOk result (λ store. 204800 ≤ (D.tally disk).size) }
-        ensures no_write { MatchResult result
-            (λ store. WritesNothing (D.tally disk) (D.tally store.disk))
-            (λ refused. OnBegun refused.fault (WritesNothing (D.tally disk) (D.tally refused.disk))) }
-        ensures good { IfOk result (λ store. D.faults store.disk ≡ D.faults disk) }
-        ensures cause { IfErr result (λ refused. refused.fault ≢ DiskHasFailed → D.faults refused.disk ≡ D.faults disk) }
-        ensures failed { IfErr result (λ refused. refused.fault ≡ DiskHasFailed → Rose (D.faults disk) (D.faults refused.disk)) }
-        ensures untouched { IfErr result (λ refused. OnNotBegun refused.fault (refused.disk ≡ disk)) }
-        ensures fuse { IfOk result (λ store. D.fuse store.disk ≡ burnt 2050 (lit (D.fuse disk))) }
-        ensures fuse_failed { IfErr result (λ refused. refused.fault ≡ DiskHasFailed → D.fuse refused.disk ≡ burnt 2050 (lit (D.fuse disk))) }
-        ensures fuse_refused { IfErr result (λ refused. OnBegun refused.fault (refused.fault ≢ DiskHasFailed → GoesOn 2050 (lit (D.fuse disk)) (D.fuse refused.disk))) }
-        ensures gone { IfOk result (λ store. Foretold 2050 (lit (D.fuse disk)) true) }
-        ensures not_gone { IfErr result (λ refused. refused.fault ≡ DiskHasFailed → Foretold 2050 (lit (D.fuse disk)) false) }
+        ensures recovered { IfOk result (λ store. Recovered D.Disk disk store) }
+        ensures refused { IfErr result (λ refused. RefusedToRecover D.Disk disk refused) }
     {
         let mut found = match room(alloc) {
             Ok(found) => found,
@@ -130,9 +104,12 @@ impl<D: Disk> Store<D> {
     /// The rows. While the store isn't halted, every image that a crash now may leave holds exactly these.
     pub fn rows(&self) -> &Table
         ensures rows { result.now ≡ self.now.rows }
+        ensures table { IsTable self.now.rows }
         ensures orders { AreWithin self.now.last self.now.rows }
         ensures stands { self.now.halted ≡ false → Stands (D.may_leave self.now.disk) self.now.rows self.now.last }
     {
+        // each call of a table tells that it is one
+        let _count = self.table.count();
         &self.table
     }
 
@@ -140,15 +117,23 @@ impl<D: Disk> Store<D> {
     pub fn generation(&self) -> u64
         ensures { result ≡ self.now.last }
     {
-        self.marks.last
+        self.keeper.marks.last
+    }
+
+    /// Tells that an earlier commit answered Worn or DiskFault.
+    pub fn is_halted(&self) -> bool
+        ensures { result ≡ self.now.halted }
+    {
+        self.keeper.marks.halted
     }
 
     /// The number of the row whose commit answered DiskFault, and the values, order included, that its change gives it.
-    /// There is none exactly where no commit answered DiskFault.
+    /// There is none exactly where no commit answered DiskFault, and so while the store isn't halted.
     pub fn undecided(&self) -> Option<(u16, Row)>
-        ensures { result ≡ self.now.undecided }
+        ensures undecided { result ≡ self.now.undecided }
+        ensures decided { self.now.halted ≡ false → result ≡ None }
     {
-        self.marks.undecided
+        self.keeper.marks.undecided
     }
 
     /// Adds the pairing of a new pair of SrcID and key, or revives that of a pair that is there, and gives its number. It
@@ -161,28 +146,12 @@ impl<D: Disk> Store<D> {
         requires above { 1 ≤ row.src.0 }
         requires below { row.src.0 ≤ 0xFFFFFFF8 }
         requires live { row.live ≡ true }
-        ensures reason { HasReason result self.old.halted (IsNewPair self.old.rows row × (length self.old.rows ≡ 1024)) self.old.last }
-        ensures rows { IfOk result (λ at. (value : _) × PairsAs self.old.rows row (self.old.last + 1) at value × (self.new.rows ≡ with_row self.old.rows at value)) }
+        ensures commits { Commits D.Disk (Pairs (ordered self.old.last row)) self.old self.new (plain result) }
+        ensures number { IfOk result (λ at. at ≡ place (Pairs row) self.old.rows) }
         ensures orders { AreWithin self.old.last self.old.rows }
-        ensures rows_kept { OnErr result (self.new.rows ≡ self.old.rows) }
-        ensures moments { OnMade result ((at : ℕ) × (value : _) × PairsAs self.old.rows row (self.old.last + 1) at value
-            × Survives (D.left self.new.disk) self.old.rows (with_row self.old.rows at value) self.old.last) }
-        ensures behind { OnMade result (KeepsBehind (D.image self.old.disk) (D.left self.new.disk)) }
-        ensures stands { OnOk result (Stands (D.may_leave self.new.disk) self.new.rows (self.old.last + 1)) }
-        ensures last { self.new.last ≡ last_after result self.old.last }
-        ensures halted { self.new.halted ≡ halted_after result self.old.halted }
-        ensures undecided { OnDiskFault result ((at : ℕ) × (value : _) × PairsAs self.old.rows row (self.old.last + 1) at value × (self.new.undecided ≡ Some (at, value))) }
-        ensures decided { OnNotMade result (self.new.undecided ≡ self.old.undecided) }
-        ensures decided_ok { OnOk result (self.new.undecided ≡ self.old.undecided) }
-        ensures run { OnMade result (RunsOnce (D.tally self.old.disk) (D.tally self.new.disk)) }
-        ensures calls { OnMade result (WritesAlone (D.tally self.new.disk)) }
-        ensures enough { OnOk result (4 ≤ (D.tally self.new.disk).writes) }
-        ensures untouched { OnNotMade result (self.new.disk ≡ self.old.disk) }
-        ensures good { OnOk result (D.faults self.new.disk ≡ D.faults self.old.disk) }
-        ensures failed { OnDiskFault result (Rose (D.faults self.old.disk) (D.faults self.new.disk)) }
-        ensures fuse { OnMade result (Burns (D.fuse self.old.disk) (D.fuse self.new.disk) (is_ok result)) }
+        ensures table { IsTable self.old.rows }
     {
-        match pair_of(&self.table, &row) {
+        match self.table.of_pair(row.src, &row.key) {
             Some(at) => match self.revive(at, row) {
                 Ok(()) => Ok(at),
                 Err(fault) => Err(fault),
@@ -193,39 +162,23 @@ impl<D: Disk> Store<D> {
 
     // Revives the row of a pair that is there.
     fn revive(&mut self, at: u16, row: Row) -> Result<(), CommitFault>
-        requires { (before : _) × IsPairOf self.old.rows row at before }
-        ensures reason { HasReason result self.old.halted ⊥ self.old.last }
-        ensures rows { OnOk result ((value : _) × PairsAs self.old.rows row (self.old.last + 1) at value × (self.new.rows ≡ with_row self.old.rows at value)) }
-        ensures rows_kept { OnErr result (self.new.rows ≡ self.old.rows) }
-        ensures moments { OnMade result ((value : _) × PairsAs self.old.rows row (self.old.last + 1) at value
-            × Survives (D.left self.new.disk) self.old.rows (with_row self.old.rows at value) self.old.last) }
-        ensures behind { OnMade result (KeepsBehind (D.image self.old.disk) (D.left self.new.disk)) }
-        ensures stands { OnOk result (Stands (D.may_leave self.new.disk) self.new.rows (self.old.last + 1)) }
-        ensures last { self.new.last ≡ last_after result self.old.last }
-        ensures halted { self.new.halted ≡ halted_after result self.old.halted }
-        ensures undecided { (value : _) → PairsAs self.old.rows row (self.old.last + 1) at value → self.new.undecided ≡ undecided_after result self.old.undecided at value }
-        ensures run { OnMade result (RunsOnce (D.tally self.old.disk) (D.tally self.new.disk)) }
-        ensures calls { OnMade result (WritesAlone (D.tally self.new.disk)) }
-        ensures enough { OnOk result (4 ≤ (D.tally self.new.disk).writes) }
-        ensures untouched { OnNotMade result (self.new.disk ≡ self.old.disk) }
-        ensures good { OnOk result (D.faults self.new.disk ≡ D.faults self.old.disk) }
-        ensures failed { OnDiskFault result (Rose (D.faults self.old.disk) (D.faults self.new.disk)) }
-        ensures fuse { OnMade result (Burns (D.fuse self.old.disk) (D.fuse self.new.disk) (is_ok result)) }
+        requires { IsPair self.old.rows row.src.0 row.key.0 at }
+        ensures commits { Commits D.Disk (Pairs (ordered self.old.last row)) self.old self.new result }
+        ensures number { at ≡ place (Pairs row) self.old.rows }
     {
         let before = *self.table.row(at);
         let row = Row {
-            order: self.marks.last.saturating_add(1),
+            order: self.keeper.marks.last.saturating_add(1),
             floor: before.floor.max(row.floor),
             ..row
         };
-        let stale = self.stale[at as usize];
-        write_row(&mut self.disk, &mut self.marks, stale, at, &row)?;
-        self.stale[at as usize] = Stale {
-            odd: !stale.odd,
-            is_open: true,
-        };
-        self.table.revive(at, row);
-        Ok(())
+        match self.keeper.put(&self.table, at, &row) {
+            Ok(()) => {
+                self.table.revive(at, row);
+                Ok(())
+            }
+            Err(fault) => Err(fault),
+        }
     }
 
     // Adds the row of a new pair.
@@ -233,25 +186,10 @@ impl<D: Disk> Store<D> {
         requires new_pair { IsNewPair self.old.rows row }
         requires above { 1 ≤ row.src.0 }
         requires below { row.src.0 ≤ 0xFFFFFFF8 }
-        ensures reason { HasReason result self.old.halted (length self.old.rows ≡ 1024) self.old.last }
-        ensures rows { IfOk result (λ at. (value : _) × PairsAs self.old.rows row (self.old.last + 1) at value × (self.new.rows ≡ with_row self.old.rows at value)) }
-        ensures rows_kept { OnErr result (self.new.rows ≡ self.old.rows) }
-        ensures moments { OnMade result ((at : ℕ) × (value : _) × PairsAs self.old.rows row (self.old.last + 1) at value
-            × Survives (D.left self.new.disk) self.old.rows (with_row self.old.rows at value) self.old.last) }
-        ensures behind { OnMade result (KeepsBehind (D.image self.old.disk) (D.left self.new.disk)) }
-        ensures stands { OnOk result (Stands (D.may_leave self.new.disk) self.new.rows (self.old.last + 1)) }
-        ensures last { self.new.last ≡ last_after result self.old.last }
-        ensures halted { self.new.halted ≡ halted_after result self.old.halted }
-        ensures undecided { (at : ℕ) (value : _) → PairsAs self.old.rows row (self.old.last + 1) at value → self.new.undecided ≡ undecided_after result self.old.undecided at value }
-        ensures run { OnMade result (RunsOnce (D.tally self.old.disk) (D.tally self.new.disk)) }
-        ensures calls { OnMade result (WritesAlone (D.tally self.new.disk)) }
-        ensures enough { OnOk result (4 ≤ (D.tally self.new.disk).writes) }
-        ensures untouched { OnNotMade result (self.new.disk ≡ self.old.disk) }
-        ensures good { OnOk result (D.faults self.new.disk ≡ D.faults self.old.disk) }
-        ensures failed { OnDiskFault result (Rose (D.faults self.old.disk) (D.faults self.new.disk)) }
-        ensures fuse { OnMade result (Burns (D.fuse self.old.disk) (D.fuse self.new.disk) (is_ok result)) }
+        ensures commits { Commits D.Disk (Pairs (ordered self.old.last row)) self.old self.new (plain result) }
+        ensures number { IfOk result (λ at. at ≡ place (Pairs row) self.old.rows) }
     {
-        if self.marks.halted {
+        if self.keeper.marks.halted {
             return Err(CommitFault::Halted);
         }
         let at = self.table.count();
@@ -259,21 +197,16 @@ impl<D: Disk> Store<D> {
             return Err(CommitFault::TableFull);
         }
         let row = Row {
-            order: self.marks.last.saturating_add(1),
+            order: self.keeper.marks.last.saturating_add(1),
             ..row
         };
-        let stale = Stale {
-            odd: false,
-            is_open: false,
-        };
-        write_row(&mut self.disk, &mut self.marks, stale, at, &row)?;
-        let next = Stale {
-            odd: true,
-            is_open: false,
-        };
-        put_last(&mut self.stale, next);
-        put_row(&mut self.table, row);
-        Ok(at)
+        match self.keeper.put(&self.table, at, &row) {
+            Ok(()) => {
+                put_row(&mut self.table, row);
+                Ok(at)
+            }
+            Err(fault) => Err(fault),
+        }
     }
 
     /// Makes this counter, which is above the row's floor, the floor.
@@ -282,35 +215,19 @@ impl<D: Disk> Store<D> {
     /// the greatest there is; DiskFault where the disk has failed. After Worn and DiskFault the store is halted.
     pub fn commit_floor(&mut self, at: u16, counter: u32) -> Result<(), CommitFault>
         requires { IsBelow self.old.rows at counter }
-        ensures reason { HasReason result self.old.halted ⊥ self.old.last }
-        ensures rows { OnOk result (self.new.rows ≡ raised self.old.rows at counter) }
-        ensures rows_kept { OnErr result (self.new.rows ≡ self.old.rows) }
-        ensures moments { OnMade result (Survives (D.left self.new.disk) self.old.rows (raised self.old.rows at counter) self.old.last) }
-        ensures behind { OnMade result (KeepsBehind (D.image self.old.disk) (D.left self.new.disk)) }
-        ensures stands { OnOk result (Stands (D.may_leave self.new.disk) (raised self.old.rows at counter) (self.old.last + 1)) }
-        ensures last { self.new.last ≡ last_after result self.old.last }
-        ensures halted { self.new.halted ≡ halted_after result self.old.halted }
-        ensures undecided { (row : _) → slice_get self.old.rows at ≡ Some row → self.new.undecided ≡ undecided_after result self.old.undecided at (with_floor counter row) }
-        ensures run { OnMade result (RunsOnce (D.tally self.old.disk) (D.tally self.new.disk)) }
-        ensures calls { OnMade result (WritesAlone (D.tally self.new.disk)) }
-        ensures enough { OnOk result (4 ≤ (D.tally self.new.disk).writes) }
-        ensures untouched { OnNotMade result (self.new.disk ≡ self.old.disk) }
-        ensures good { OnOk result (D.faults self.new.disk ≡ D.faults self.old.disk) }
-        ensures failed { OnDiskFault result (Rose (D.faults self.old.disk) (D.faults self.new.disk)) }
-        ensures fuse { OnMade result (Burns (D.fuse self.old.disk) (D.fuse self.new.disk) (is_ok result)) }
+        ensures commits { Commits D.Disk (Raises at counter) self.old self.new result }
     {
         let row = Row {
             floor: counter,
             ..*self.table.row(at)
         };
-        let stale = self.stale[at as usize];
-        write_row(&mut self.disk, &mut self.marks, stale, at, &row)?;
-        self.stale[at as usize] = Stale {
-            odd: !stale.odd,
-            is_open: true,
-        };
-        self.table.raise(at, counter);
-        Ok(())
+        match self.keeper.put(&self.table, at, &row) {
+            Ok(()) => {
+                self.table.raise(at, counter);
+                Ok(())
+            }
+            Err(fault) => Err(fault),
+        }
     }
 
     /// Unpairs the row by a frame with this counter, which is above the row's floor and becomes the floor.
@@ -319,57 +236,39 @@ impl<D: Disk> Store<D> {
     /// the greatest there is; DiskFault where the disk has failed. After Worn and DiskFault the store is halted.
     pub fn retire(&mut self, at: u16, counter: u32) -> Result<(), CommitFault>
         requires { IsBelow self.old.rows at counter }
-        ensures reason { HasReason result self.old.halted ⊥ self.old.last }
-        ensures rows { OnOk result (self.new.rows ≡ retired self.old.rows at counter) }
-        ensures rows_kept { OnErr result (self.new.rows ≡ self.old.rows) }
-        ensures moments { OnMade result (Survives (D.left self.new.disk) self.old.rows (retired self.old.rows at counter) self.old.last) }
-        ensures behind { OnMade result (KeepsBehind (D.image self.old.disk) (D.left self.new.disk)) }
-        ensures stands { OnOk result (Stands (D.may_leave self.new.disk) (retired self.old.rows at counter) (self.old.last + 1)) }
-        ensures last { self.new.last ≡ last_after result self.old.last }
-        ensures halted { self.new.halted ≡ halted_after result self.old.halted }
-        ensures undecided { (row : _) → slice_get self.old.rows at ≡ Some row → self.new.undecided ≡ undecided_after result self.old.undecided at (retired_row counter row) }
-        ensures run { OnMade result (RunsOnce (D.tally self.old.disk) (D.tally self.new.disk)) }
-        ensures calls { OnMade result (WritesAlone (D.tally self.new.disk)) }
-        ensures enough { OnOk result (4 ≤ (D.tally self.new.disk).writes) }
-        ensures untouched { OnNotMade result (self.new.disk ≡ self.old.disk) }
-        ensures good { OnOk result (D.faults self.new.disk ≡ D.faults self.old.disk) }
-        ensures failed { OnDiskFault result (Rose (D.faults self.old.disk) (D.faults self.new.disk)) }
-        ensures fuse { OnMade result (Burns (D.fuse self.old.disk) (D.fuse self.new.disk) (is_ok result)) }
+        ensures commits { Commits D.Disk (Retires at counter) self.old self.new result }
     {
         let row = Row {
             live: false,
             floor: counter,
             ..*self.table.row(at)
         };
-        let stale = self.stale[at as usize];
-        write_row(&mut self.disk, &mut self.marks, stale, at, &row)?;
-        self.stale[at as usize] = Stale {
-            odd: !stale.odd,
-            is_open: true,
-        };
-        self.table.retire(at, counter);
-        Ok(())
+        match self.keeper.put(&self.table, at, &row) {
+            Ok(()) => {
+                self.table.retire(at, counter);
+                Ok(())
+            }
+            Err(fault) => Err(fault),
+        }
     }
 
     /// The disk.
     pub fn into_disk(self) -> D
         ensures { result ≡ self.disk }
     {
-        let Store {
+        let Store { table: _, keeper } = self;
+        let Keeper {
             disk,
-            table: _,
             stale: _,
             marks: _,
-        } = self;
+        } = keeper;
         disk
     }
 }
 
 impl Store<MemoryDisk> {
     ghost use Rattle.gp_disk.specs.Memory.{memory_fuse, SameButFuse};
-    ghost use Rattle.gp_disk.specs.declared.arming.Arming.TheVariants.{Waits};
-    ghost use Rattle.gp_disk.specs.declared.arming.Ending.TheVariants.{Stop, Fault};
-    ghost use Rattle.gp_disk.specs.Fuse.{rearmed, is_due, has_stopped};
+    ghost use Rattle.gp_disk.specs.Fuse.{Waits, Stop, Fault, rearmed, is_due, has_stopped};
     ghost use Rattle.gp_store.specs.State.{SameButDisk};
 
     /// Arms a stop of the disk, which is due from the `begin` of this number on and falls once so many device calls have
@@ -380,7 +279,7 @@ impl Store<MemoryDisk> {
         ensures disk { SameButFuse self.old.disk self.new.disk }
         ensures same { SameButDisk self.old self.new }
     {
-        self.disk.arm_cut(begins, calls);
+        self.keeper.disk.arm_cut(begins, calls);
     }
 
     /// Arms a fault of the disk, which falls as a stop does, and fails that call alone.
@@ -390,20 +289,20 @@ impl Store<MemoryDisk> {
         ensures disk { SameButFuse self.old.disk self.new.disk }
         ensures same { SameButDisk self.old self.new }
     {
-        self.disk.arm_fault(begins, calls);
+        self.keeper.disk.arm_fault(begins, calls);
     }
 
     /// Tells that an arming is due.
     pub fn due(&self) -> bool
         ensures { result ≡ is_due (memory_fuse self.now.disk) }
     {
-        self.disk.due()
+        self.keeper.disk.due()
     }
 
     /// Tells that a stop has come.
     pub fn stopped(&self) -> bool
         ensures { result ≡ has_stopped (memory_fuse self.now.disk) }
     {
-        self.disk.stopped()
+        self.keeper.disk.stopped()
     }
 }

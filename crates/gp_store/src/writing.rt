@@ -1,11 +1,12 @@
 //! One slot is rewritten: its gate is closed where it is open, the octets behind it are written, it is opened. Each of
 //! the three is on the disk before the next begins.
-ghost use Rattle.std.specs.Prelude.{◌≡◌, ◌+◌, ◌<◌, ◌≤◌, false, true, length, OnOk, OnErr, is_ok, if◌then◌else◌};
-ghost use Rattle.gp_base.specs.Outside.{Rose};
-ghost use Rattle.gp_disk.specs.Disk.{IsQuiet, SameRun};
+ghost use Rattle.std.specs.Prelude.{◌≡◌, ◌+◌, ◌<◌, ◌≤◌, false, true, length, OnOk, is_ok, if◌then◌else◌};
+ghost use Rattle.gp_disk.specs.Disk.{IsQuiet};
+ghost use Rattle.gp_disk.specs.Durable.{seen};
 ghost use Rattle.gp_disk.specs.Fuse.{burnt, Foretold};
-ghost use Rattle.gp_store.specs.Image.{format_1};
-ghost use Rattle.gp_store.specs.Writes.{Rewrites, Rewritten, Closes, Closed, Filled, Opens, IsOpened, GrowsBy, Becomes, TellsOpen, after_stable, after_closing, after_rewrite, rewrite_calls};
+ghost use Rattle.gp_rows.specs.Rows.{CAPACITY};
+ghost use Rattle.gp_store.specs.Image.{IMAGE_SIZE, format_1};
+ghost use Rattle.gp_store.specs.Writes.{Rewrites, Rewritten, Closes, Closed, Filled, Opens, IsOpened, GrowsBy, Becomes, Steps, TellsOpen, after_stable, after_closing, after_rewrite, rewrite_calls};
 
 use crate::layout::{OPEN, Slot};
 use gp_base::Failed;
@@ -13,8 +14,8 @@ use gp_disk::{Disk, stable};
 
 // Closes the gate of a slot that is open, and makes no call where it is closed.
 fn close<D: Disk>(disk: &mut D, slot: Slot, is_open: bool) -> Result<(), Failed>
-    requires size { 204800 ≤ (D.tally disk.old).size }
-    requires row { slot.row < 1024 }
+    requires size { IMAGE_SIZE ≤ (D.tally disk.old).size }
+    requires row { slot.row < CAPACITY }
     requires calls { (D.tally disk.old).writes + 2 ≤ 16 }
     requires room { (D.tally disk.old).octets + 1 ≤ 262400 }
     requires settled { (D.tally disk.old).unsettled ≡ false }
@@ -22,14 +23,8 @@ fn close<D: Disk>(disk: &mut D, slot: Slot, is_open: bool) -> Result<(), Failed>
     requires tells { TellsOpen format_1 slot.row slot.odd is_open (D.image disk.old) }
     ensures since { GrowsBy (Closes format_1 slot.row slot.odd) (D.image disk.old) (D.left disk.old) (D.left disk.new) }
     ensures written { OnOk result (Becomes (Closed format_1 slot.row slot.odd) (D.image disk.old) (D.image disk.new)) }
-    ensures quiet { OnOk result (IsQuiet (D.tally disk.new) (D.image disk.new) (D.may_leave disk.new)) }
-    ensures run { SameRun (D.tally disk.old) (D.tally disk.new) }
+    ensures steps { Steps 2 result (seen D.Disk disk.old) (seen D.Disk disk.new) }
     ensures tally { OnOk result (D.tally disk.new ≡ after_closing is_open (D.tally disk.old)) }
-    ensures good { OnOk result (D.faults disk.new ≡ D.faults disk.old) }
-    ensures failed { OnErr result (Rose (D.faults disk.old) (D.faults disk.new)) }
-    ensures kept { D.faults disk.old ≤ D.faults disk.new }
-    ensures alone { (D.tally disk.old).calls ≡ (D.tally disk.old).writes → (D.tally disk.new).calls ≡ (D.tally disk.new).writes }
-    ensures few { (D.tally disk.new).writes ≤ (D.tally disk.old).writes + 2 }
     ensures fuse { D.fuse disk.new ≡ (if is_open then burnt 2 (D.fuse disk.old) else D.fuse disk.old) }
     ensures foretold { is_open ≡ true → Foretold 2 (D.fuse disk.old) (is_ok result) }
     ensures no_call { is_open ≡ false → is_ok result ≡ true }
@@ -43,8 +38,8 @@ fn close<D: Disk>(disk: &mut D, slot: Slot, is_open: bool) -> Result<(), Failed>
 
 // Writes the octets behind the gate of a slot that is closed.
 fn fill<D: Disk>(disk: &mut D, slot: Slot, octets: &[u8]) -> Result<(), Failed>
-    requires size { 204800 ≤ (D.tally disk.old).size }
-    requires row { slot.row < 1024 }
+    requires size { IMAGE_SIZE ≤ (D.tally disk.old).size }
+    requires row { slot.row < CAPACITY }
     requires behind { length octets.now ≡ 63 }
     requires calls { (D.tally disk.old).writes + 2 ≤ 16 }
     requires room { (D.tally disk.old).octets + 63 ≤ 262400 }
@@ -53,14 +48,8 @@ fn fill<D: Disk>(disk: &mut D, slot: Slot, octets: &[u8]) -> Result<(), Failed>
     requires tells { TellsOpen format_1 slot.row slot.odd false (D.image disk.old) }
     ensures since { GrowsBy (Closed format_1 slot.row slot.odd) (D.image disk.old) (D.left disk.old) (D.left disk.new) }
     ensures written { OnOk result (Becomes (Filled format_1 slot.row slot.odd octets.now) (D.image disk.old) (D.image disk.new)) }
-    ensures quiet { OnOk result (IsQuiet (D.tally disk.new) (D.image disk.new) (D.may_leave disk.new)) }
-    ensures run { SameRun (D.tally disk.old) (D.tally disk.new) }
+    ensures steps { Steps 2 result (seen D.Disk disk.old) (seen D.Disk disk.new) }
     ensures tally { OnOk result (D.tally disk.new ≡ after_stable 63 (D.tally disk.old)) }
-    ensures good { OnOk result (D.faults disk.new ≡ D.faults disk.old) }
-    ensures failed { OnErr result (Rose (D.faults disk.old) (D.faults disk.new)) }
-    ensures kept { D.faults disk.old ≤ D.faults disk.new }
-    ensures alone { (D.tally disk.old).calls ≡ (D.tally disk.old).writes → (D.tally disk.new).calls ≡ (D.tally disk.new).writes }
-    ensures few { (D.tally disk.new).writes ≤ (D.tally disk.old).writes + 2 }
     ensures fuse { D.fuse disk.new ≡ burnt 2 (D.fuse disk.old) }
     ensures foretold { Foretold 2 (D.fuse disk.old) (is_ok result) }
 {
@@ -69,22 +58,16 @@ fn fill<D: Disk>(disk: &mut D, slot: Slot, octets: &[u8]) -> Result<(), Failed>
 
 // Opens the gate of a slot.
 fn open<D: Disk>(disk: &mut D, slot: Slot) -> Result<(), Failed>
-    requires size { 204800 ≤ (D.tally disk.old).size }
-    requires row { slot.row < 1024 }
+    requires size { IMAGE_SIZE ≤ (D.tally disk.old).size }
+    requires row { slot.row < CAPACITY }
     requires calls { (D.tally disk.old).writes + 2 ≤ 16 }
     requires room { (D.tally disk.old).octets + 1 ≤ 262400 }
     requires settled { (D.tally disk.old).unsettled ≡ false }
     requires quiet { IsQuiet (D.tally disk.old) (D.image disk.old) (D.may_leave disk.old) }
     ensures since { GrowsBy (Opens format_1 slot.row slot.odd) (D.image disk.old) (D.left disk.old) (D.left disk.new) }
     ensures written { OnOk result (Becomes (IsOpened format_1 slot.row slot.odd) (D.image disk.old) (D.image disk.new)) }
-    ensures quiet { OnOk result (IsQuiet (D.tally disk.new) (D.image disk.new) (D.may_leave disk.new)) }
-    ensures run { SameRun (D.tally disk.old) (D.tally disk.new) }
+    ensures steps { Steps 2 result (seen D.Disk disk.old) (seen D.Disk disk.new) }
     ensures tally { OnOk result (D.tally disk.new ≡ after_stable 1 (D.tally disk.old)) }
-    ensures good { OnOk result (D.faults disk.new ≡ D.faults disk.old) }
-    ensures failed { OnErr result (Rose (D.faults disk.old) (D.faults disk.new)) }
-    ensures kept { D.faults disk.old ≤ D.faults disk.new }
-    ensures alone { (D.tally disk.old).calls ≡ (D.tally disk.old).writes → (D.tally disk.new).calls ≡ (D.tally disk.new).writes }
-    ensures few { (D.tally disk.new).writes ≤ (D.tally disk.old).writes + 2 }
     ensures fuse { D.fuse disk.new ≡ burnt 2 (D.fuse disk.old) }
     ensures foretold { Foretold 2 (D.fuse disk.old) (is_ok result) }
 {
@@ -99,8 +82,8 @@ pub fn write_slot<D: Disk>(
     is_open: bool,
     octets: &[u8],
 ) -> Result<(), Failed>
-    requires size { 204800 ≤ (D.tally disk.old).size }
-    requires row { slot.row < 1024 }
+    requires size { IMAGE_SIZE ≤ (D.tally disk.old).size }
+    requires row { slot.row < CAPACITY }
     requires behind { length octets.now ≡ 63 }
     requires calls { (D.tally disk.old).writes + 6 ≤ 16 }
     requires room { (D.tally disk.old).octets + 65 ≤ 262400 }
@@ -109,18 +92,16 @@ pub fn write_slot<D: Disk>(
     requires tells { TellsOpen format_1 slot.row slot.odd is_open (D.image disk.old) }
     ensures since { GrowsBy (Rewrites format_1 slot.row slot.odd octets.now) (D.image disk.old) (D.left disk.old) (D.left disk.new) }
     ensures written { OnOk result (Becomes (Rewritten format_1 slot.row slot.odd octets.now) (D.image disk.old) (D.image disk.new)) }
-    ensures quiet { OnOk result (IsQuiet (D.tally disk.new) (D.image disk.new) (D.may_leave disk.new)) }
-    ensures run { SameRun (D.tally disk.old) (D.tally disk.new) }
+    ensures steps { Steps 6 result (seen D.Disk disk.old) (seen D.Disk disk.new) }
     ensures tally { OnOk result (D.tally disk.new ≡ after_rewrite is_open (D.tally disk.old)) }
-    ensures good { OnOk result (D.faults disk.new ≡ D.faults disk.old) }
-    ensures failed { OnErr result (Rose (D.faults disk.old) (D.faults disk.new)) }
-    ensures kept { D.faults disk.old ≤ D.faults disk.new }
-    ensures alone { (D.tally disk.old).calls ≡ (D.tally disk.old).writes → (D.tally disk.new).calls ≡ (D.tally disk.new).writes }
-    ensures few { (D.tally disk.new).writes ≤ (D.tally disk.old).writes + 6 }
     ensures fuse { D.fuse disk.new ≡ burnt (rewrite_calls is_open) (D.fuse disk.old) }
     ensures foretold { Foretold (rewrite_calls is_open) (D.fuse disk.old) (is_ok result) }
 {
-    close(disk, slot, is_open)?;
-    fill(disk, slot, octets)?;
+    let Ok(()) = close(disk, slot, is_open) else {
+        return Err(Failed);
+    };
+    let Ok(()) = fill(disk, slot, octets) else {
+        return Err(Failed);
+    };
     open(disk, slot)
 }

@@ -1,7 +1,10 @@
-use Rattle.std.proofs.Common.{refl}
+use Rattle.std.proofs.Common.{refl, arith}
 use Rattle.std.proofs.lemmas.Result.{on_ok_weaker}
-use Rattle.gp_store.proofs.Formatted.{name_written}
+use Rattle.gp_store.proofs.Formatted.{ends_grow, name_written}
 use Rattle.gp_store.proofs.formatting.name.Goals as goal
+
+pub returns-clause-since : goal.returns-clause-since
+returns-clause-since g c = ends_grow 1 63 _ _ _ c.stable.ensures.since (omega arith) (omega arith)
 
 pub returns-clause-written : goal.returns-clause-written
 returns-clause-written g c =

@@ -1,11 +1,13 @@
 use Rattle.std.proofs.Common.{arith}
 use Rattle.gp_store.proofs.OneRow.{row_past, row_is}
 use Rattle.gp_store.proofs.holding.held.Goals as goal
+use Rattle.gp_store.specs.Image.{HoldsRows}
 
 pub returns-then-at-ge-ROWS-clause-row : goal.returns-then-at-ge-ROWS-clause-row
 returns-then-at-ge-ROWS-clause-row g c = λ d is rows h. row_past d rows c.args.at h c.if-at-ge-ROWS.true
 
 pub returns-then-size-lt-SIZE-clause-row : goal.returns-then-size-lt-SIZE-clause-row
+unfolding HoldsRows
 returns-then-size-lt-SIZE-clause-row g c = λ d is rows h.
     let long = h.size in
     let fits = g.met.D.Disk.fits c.args.disk.now d is in

@@ -13,7 +13,9 @@ pub returns-clause-found : goal.returns-clause-found
 returns-clause-found c =
     let numbers = c.requires.judged.formed.numbers in
     let more = found_more c.args.found.now.table c.args.found.now.stale.items c.args.found.now.older.items c.args.found.now.last c.args.row c.args.stale c.args.older c.generation_of-generation.result
-    c.requires.found (omega (arith, numbers.order_within, c.requires.shows.has_order, c.generation_of-generation.ensures)) in
+    c.requires.found (omega (arith, numbers.order_within, c.requires.shows.has_order, c.generation_of-generation.ensures)) (omega (arith, c.requires.judged.follows))
+    (pair_of c.args.found.now.table c.args.found.now.older.items c.args.octets.now c.args.at c.args.row c.requires.found.as_many_older c.requires.judged c.requires.shows)
+    (order_of c.args.found.now.table c.args.found.now.older.items c.args.octets.now c.args.at c.args.row c.requires.found.as_many_older c.requires.judged c.requires.shows) in
     rw (c.put_row.ensures, c.put_last.ensures.items, c.put_last-2.ensures.items, c.max-found.ensures) more
 
 pub returns-clause-reads : goal.returns-clause-reads

@@ -2,7 +2,8 @@ use Rattle.std.proofs.Common.{Bool, subst}
 use Rattle.std.proofs.lemmas.Result.{on_ok_weaker}
 use Rattle.gp_store.specs.Image.{format_1}
 use Rattle.gp_store.specs.Writes.{TellsOpen}
-use Rattle.gp_store.proofs.Counts.{stable_alone, stable_few}
+use Rattle.gp_disk.specs.Durable.{seen}
+use Rattle.gp_store.proofs.Stepping.{stable_steps}
 use Rattle.gp_store.proofs.Rewriting.{close_since, close_written}
 use Rattle.gp_store.proofs.writing.close.Goals as goal
 
@@ -18,8 +19,5 @@ returns-then-is_open-clause-written g c =
     (close_written c.args.slot.row c.args.slot.odd c.requires.row c.gate.result c.gate.ensures.place c.gate.ensures.within (g.D.Disk.image c.args.disk.now) (g.D.Disk.tally c.args.disk.now).size c.requires.size
     (g.met.D.Disk.fits c.args.disk.now) (g.D.Disk.image c.stable.new.disk)) c.stable.ensures.written
 
-pub returns-then-is_open-clause-alone : goal.returns-then-is_open-clause-alone
-returns-then-is_open-clause-alone g c = stable_alone _ (g.D.Disk.tally c.args.disk.now) (g.D.Disk.tally c.stable.new.disk) c.stable.result c.stable.ensures.tally c.stable.ensures.tally_failed c.requires.calls
-
-pub returns-then-is_open-clause-few : goal.returns-then-is_open-clause-few
-returns-then-is_open-clause-few g c = stable_few _ (g.D.Disk.tally c.args.disk.now) (g.D.Disk.tally c.stable.new.disk) c.stable.result c.stable.ensures.tally c.stable.ensures.tally_failed
+pub returns-then-is_open-clause-steps : goal.returns-then-is_open-clause-steps
+returns-then-is_open-clause-steps g c = stable_steps _ _ _ _ c.stable.result (seen g.D.Disk c.args.disk.now) (seen g.D.Disk c.stable.new.disk) c.stable.ensures c.requires.calls

@@ -1,5 +1,6 @@
 use Rattle.std.proofs.lemmas.Result.{on_ok_weaker}
-use Rattle.gp_store.proofs.Counts.{stable_alone, stable_few}
+use Rattle.gp_disk.specs.Durable.{seen}
+use Rattle.gp_store.proofs.Stepping.{stable_steps}
 use Rattle.gp_store.proofs.Rewriting.{open_since, open_written}
 use Rattle.gp_store.proofs.writing.open.Goals as goal
 
@@ -14,8 +15,5 @@ returns-clause-written g c =
     (open_written c.args.slot.row c.args.slot.odd c.requires.row c.gate.result c.gate.ensures.place c.gate.ensures.within (g.D.Disk.image c.args.disk.now) (g.D.Disk.tally c.args.disk.now).size c.requires.size
     (g.met.D.Disk.fits c.args.disk.now) (g.D.Disk.image c.stable.new.disk)) c.stable.ensures.written
 
-pub returns-clause-alone : goal.returns-clause-alone
-returns-clause-alone g c = stable_alone _ (g.D.Disk.tally c.args.disk.now) (g.D.Disk.tally c.stable.new.disk) c.stable.result c.stable.ensures.tally c.stable.ensures.tally_failed c.requires.calls
-
-pub returns-clause-few : goal.returns-clause-few
-returns-clause-few g c = stable_few _ (g.D.Disk.tally c.args.disk.now) (g.D.Disk.tally c.stable.new.disk) c.stable.result c.stable.ensures.tally c.stable.ensures.tally_failed
+pub returns-clause-steps : goal.returns-clause-steps
+returns-clause-steps g c = stable_steps _ _ _ _ c.stable.result (seen g.D.Disk c.args.disk.now) (seen g.D.Disk c.stable.new.disk) c.stable.ensures c.requires.calls
