@@ -1,1 +1,5 @@
 pub mod Capture
+pub mod Kinds
+pub mod Report
+pub mod Script
+pub mod Words

@@ -1,0 +1,88 @@
+-- The lines of a script.
+use Rattle.std.specs.Prelude.{ℕ, ◌==◌, ◌&&◌, nat_le, nat_lt, Bool, true, List, [], ◌∷◌, ◌++◌, length, take, drop, Option, Some, None, codes, if◌then◌else◌}
+use Rattle.std.specs.Option.{option_map}
+use Rattle.std.specs.Str.{bytes_eq}
+use Rattle.std.specs.Int.{w8, w16, w64, to_be_bytes}
+use Rattle.hex.specs.Hex.{encode_upper}
+use Rattle.gp_script.specs.Kinds.{Parse, Kind, one, two, three, seven, applied, by_keyword, no_more, keyed, whole, or_word, name, source, key, key_kind, level, hex, hex_in, octets, number_up_to}
+use Rattle.gp_script.specs.declared.script.Action.{Action}
+use Rattle.gp_script.specs.declared.script.Action.TheVariants.{Sink, Device, Pair, Press, Hear}
+use Rattle.gp_script.specs.declared.script.Event.{Event}
+use Rattle.gp_script.specs.declared.script.Event.TheVariants.{Nothing, Line}
+use Rattle.gp_script.specs.declared.script.SinkMode.{SinkMode}
+use Rattle.gp_script.specs.declared.script.SinkMode.TheVariants.{Derived, Unicast, Group}
+
+-- ---- kinds of words that a script alone has
+
+-- values of a kind that pass a test
+abbrev pub tested_in : {A : Type 0} → (A → Bool) → Option A → Option A
+tested_in test None = None
+tested_in test (Some value) = if test value then Some value else None
+
+abbrev pub where_true : {A : Type 0} → (A → Bool) → Kind A → Kind A
+where_true test kind = record { read = λ word. tested_in test (kind.read word); text = kind.text; fits = λ value. kind.fits value && test value }
+
+-- a channel, from 11 to 26
+abbrev pub channel : Kind ℕ
+channel = where_true (λ number. nat_le 11 number) (number_up_to 26)
+
+-- a command, of 1 to 104 octets
+abbrev pub command : Kind (List ℕ)
+command = where_true (λ octets. nat_le 1 (length octets) && nat_le (length octets) 104) octets
+
+-- `derived`, `unicast` or `group:ADDR`
+abbrev pub sink_mode_in : List ℕ → Option SinkMode
+sink_mode_in word =
+    if bytes_eq word (codes "derived") then Some Derived
+    else if bytes_eq word (codes "unicast") then Some Unicast
+    else if bytes_eq (take 6 word) (codes "group:") then option_map (λ address. Group address) (hex_in w16 (drop 6 word))
+    else None
+
+abbrev pub sink_mode_text : SinkMode → List ℕ
+sink_mode_text Derived = codes "derived"
+sink_mode_text Unicast = codes "unicast"
+sink_mode_text (Group address) = codes "group:" ++ encode_upper (to_be_bytes w16 address)
+
+abbrev pub sink_mode_fits : SinkMode → Bool
+sink_mode_fits Derived = true
+sink_mode_fits Unicast = true
+sink_mode_fits (Group address) = nat_lt address 65536
+
+abbrev pub sink_mode : Kind SinkMode
+sink_mode = record { read = sink_mode_in; text = sink_mode_text; fits = sink_mode_fits }
+
+abbrev pub number32 : Kind ℕ
+number32 = number_up_to 4294967295
+
+abbrev pub number64 : Kind ℕ
+number64 = number_up_to 18446744073709551615
+
+-- ---- the lines, by their keywords
+
+-- the lines about frames, and of a pairing
+abbrev pub doings : List ℕ → Parse Action
+doings = by_keyword (
+    (codes "pair", seven name source key key_kind level (hex w8) number32 Pair)
+    ∷ (codes "press", two name command Press)
+    ∷ (codes "hear", three number64 name (hex w8) Hear)
+    ∷ []) no_more
+
+-- the lines that make a node
+abbrev pub nodes : List ℕ → Parse Action
+nodes = by_keyword (
+    (codes "sink", seven name (hex w16) (hex w64) sink_mode channel (or_word (codes "-") key) key Sink)
+    ∷ (codes "device", seven name source key key_kind level (hex w8) number32 Device)
+    ∷ []) doings
+
+-- an action behind a reading, which leaves room for 100,000,000 more
+abbrev pub timed : Parse Event
+timed = applied (one (number_up_to 18446744073609551615) (λ reading action. Line reading action)) (keyed nodes)
+
+-- an empty line or a comment does nothing
+abbrev pub is_nothing : List ℕ → Bool
+is_nothing [] = true
+is_nothing (first ∷ others) = first == 35
+
+-- what a line of a script asks for
+abbrev pub event_of : List ℕ → Option Event
+event_of line = if is_nothing line then Some Nothing else whole timed line

@@ -1,0 +1,201 @@
+//! The lines of a script.
+
+ghost use Rattle.std.specs.Prelude.{◌≡◌, ◌∷◌, [], take, drop, codes, Some, None};
+ghost use Rattle.std.specs.Result.{result_ok};
+ghost use Rattle.gp_script.specs.Kinds.{Reads, next};
+ghost use Rattle.gp_script.specs.Script as spec;
+
+use crate::capture::NotALine;
+use crate::kinds::{
+    hex8, hex16, hex16_in, hex64, key, key_kind, key_or_dash, level, name, number_in, number32,
+    number64, octets, source,
+};
+use crate::name::Name;
+use crate::words::Words;
+use gp_base::{Key, KeyKind, Level, Octets, Src};
+
+/// How a sink asks for the frames of a device.
+#[derive(Clone, Copy, PartialEq, Eq, Debug)]
+pub enum SinkMode {
+    /// To the group that is derived from its SrcID.
+    Derived,
+    /// To the sink.
+    Unicast,
+    /// To this group.
+    Group(u16),
+}
+
+/// What a line of a script does.
+#[derive(Clone, PartialEq, Eq, Debug, Drop)]
+pub enum Action {
+    /// `sink NAME ADDR IEEE MODE CHANNEL LINKKEY KEY`: makes a running sink.
+    Sink {
+        name: Name,
+        address: u16,
+        ieee: u64,
+        mode: SinkMode,
+        channel: u8,
+        link: Option<Key>,
+        shared: Key,
+    },
+    /// `device NAME SRC KEY KIND LEVEL DEVICE COUNTER`: makes a device.
+    Device {
+        name: Name,
+        source: Src,
+        key: Key,
+        kind: KeyKind,
+        level: Level,
+        device: u8,
+        counter: u32,
+    },
+    /// `pair SINK SRC KEY KIND LEVEL DEVICE COUNTER`: pairs a device.
+    Pair {
+        sink: Name,
+        source: Src,
+        key: Key,
+        kind: KeyKind,
+        level: Level,
+        device: u8,
+        counter: u32,
+    },
+    /// `press DEVICE HEX`: sends a command.
+    Press {
+        device: Name,
+        command: Octets,
+    },
+    /// `hear N NODE LINK`: a frame reaches a node.
+    Hear {
+        frame: u64,
+        node: Name,
+        link: u8,
+    },
+}
+
+/// What a line of a script asks for.
+#[derive(Clone, PartialEq, Eq, Debug, Drop)]
+pub enum Event {
+    /// Nothing: an empty line or a comment.
+    Nothing,
+    /// An action at this reading of the clock, in milliseconds.
+    Line { reading: u64, action: Action },
+}
+
+/// Reads a line of a script. `NotALine` comes exactly where it has none of the forms.
+pub fn read_event(line: &[u8]) -> Result<Event, NotALine>
+    ensures { result_ok result ≡ spec.event_of line.now }
+{
+    if line.is_empty() || line[0] == b'#' {
+        return Ok(Event::Nothing);
+    }
+    let mut words = Words::of(line);
+    match timed(&mut words) {
+        Some(event) if words.is_done() => Ok(event),
+        _ => Err(NotALine),
+    }
+}
+
+fn timed(words: &mut Words) -> Option<Event>
+    ensures { Reads spec.timed words.old words.new result }
+{
+    let reading = number_in(words.next()?, 18446744073609551615)?;
+    let keyword = words.next()?;
+    Some(Event::Line {
+        reading,
+        action: nodes(keyword, words)?,
+    })
+}
+
+fn nodes(keyword: &[u8], words: &mut Words) -> Option<Action>
+    ensures { Reads (spec.nodes keyword.now) words.old words.new result }
+{
+    if keyword == b"sink".as_slice() {
+        return Some(Action::Sink {
+            name: name(words)?,
+            address: hex16(words)?,
+            ieee: hex64(words)?,
+            mode: sink_mode(words)?,
+            channel: channel(words)?,
+            link: key_or_dash(words)?,
+            shared: key(words)?,
+        });
+    }
+    if keyword == b"device".as_slice() {
+        return Some(Action::Device {
+            name: name(words)?,
+            source: source(words)?,
+            key: key(words)?,
+            kind: key_kind(words)?,
+            level: level(words)?,
+            device: hex8(words)?,
+            counter: number32(words)?,
+        });
+    }
+    doings(keyword, words)
+}
+
+fn doings(keyword: &[u8], words: &mut Words) -> Option<Action>
+    ensures { Reads (spec.doings keyword.now) words.old words.new result }
+{
+    if keyword == b"pair".as_slice() {
+        return Some(Action::Pair {
+            sink: name(words)?,
+            source: source(words)?,
+            key: key(words)?,
+            kind: key_kind(words)?,
+            level: level(words)?,
+            device: hex8(words)?,
+            counter: number32(words)?,
+        });
+    }
+    if keyword == b"press".as_slice() {
+        return Some(Action::Press {
+            device: name(words)?,
+            command: command(words)?,
+        });
+    }
+    if keyword == b"hear".as_slice() {
+        return Some(Action::Hear {
+            frame: number64(words)?,
+            node: name(words)?,
+            link: hex8(words)?,
+        });
+    }
+    None
+}
+
+// How a sink asks for frames.
+fn sink_mode(words: &mut Words) -> Option<SinkMode>
+    ensures { Reads (next spec.sink_mode) words.old words.new result }
+{
+    let word = words.next()?;
+    if word == b"derived".as_slice() {
+        return Some(SinkMode::Derived);
+    }
+    if word == b"unicast".as_slice() {
+        return Some(SinkMode::Unicast);
+    }
+    Some(SinkMode::Group(hex16_in(word.strip_prefix(b"group:")?)?))
+}
+
+// A channel, from 11 to 26.
+fn channel(words: &mut Words) -> Option<u8>
+    ensures { Reads (next spec.channel) words.old words.new result }
+{
+    let number = number_in(words.next()?, 26)?;
+    if number < 11 {
+        return None;
+    }
+    Some(number as u8)
+}
+
+// From 1 to 104 octets.
+fn command(words: &mut Words) -> Option<Octets>
+    ensures { Reads (next spec.command) words.old words.new result }
+{
+    let octets = octets(words)?;
+    let count = octets.as_slice().len();
+    if count < 1 || count > 104 {
+        return None;
+    }
+    Some(octets)
+}
