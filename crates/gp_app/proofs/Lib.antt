@@ -1,10 +1,3 @@
-pub mod Bodies
-pub mod CompleteLines
 pub mod Completeness
-mod JsonMembers
-pub mod LineLemmas
-pub mod MessageTexts
+pub mod Decodings
 pub mod Outcomes
-pub mod Runs
-pub mod Streams
-pub mod Taking

@@ -1,4 +1,4 @@
--- What the words of the command line ask for.
+-- What the arguments of the command line ask for.
 use Rattle.std.specs.Prelude.{ℕ, ◌==◌, List, [], ◌∷◌, length, Option, Some, None, codes, if◌then◌else◌}
 use Rattle.std.specs.Option.{option_map}
 use Rattle.std.specs.Result.{result_ok}
@@ -7,9 +7,9 @@ use Rattle.hex.specs.Hex.{decode_of}
 use Rattle.gp_base.specs.declared.identity.Key.{Key}
 use Rattle.gp_app.specs.declared.command.Command.{Command}
 use Rattle.gp_app.specs.declared.command.Command.TheVariants.{Decode, Format}
-use Rattle.gp_app.specs.declared.form.ListingForm.{ListingForm}
-use Rattle.gp_app.specs.declared.form.Style.{Style}
-use Rattle.gp_app.specs.declared.form.Style.TheVariants.{Text, Json}
+use Rattle.gp_listing.specs.declared.form.ListingForm.{ListingForm}
+use Rattle.gp_listing.specs.declared.form.Style.{Style}
+use Rattle.gp_listing.specs.declared.form.Style.TheVariants.{Text, Json}
 
 -- a key: 32 hexadecimal digits of either case
 unfoldable pub key_of : List ℕ → Option Key
@@ -19,7 +19,7 @@ key_of word = if length word == 32 then option_map (λ octets. record { 0 = octe
 abbrev pub listed : Style → Option Key → Command
 listed style key = Decode (record { style = style; key = key })
 
--- what follows the word `decode`: nothing, `--json`, a key, or `--json` and a key
+-- what follows `decode`: nothing, `--json`, a key, or `--json` and a key
 abbrev pub listing_words : List (List ℕ) → Option Command
 listing_words [] = Some (listed Text None)
 listing_words (word ∷ []) =
@@ -28,7 +28,7 @@ listing_words (word ∷ other ∷ []) =
     if bytes_eq word (codes "--json") then option_map (λ key. listed Json (Some key)) (key_of other) else None
 listing_words (word ∷ other ∷ third ∷ others) = None
 
--- the word `format` and no other
+-- nothing follows `format`
 abbrev pub format_words : List (List ℕ) → Option Command
 format_words [] = Some Format
 format_words (word ∷ others) = None
@@ -39,13 +39,11 @@ command_of [] = None
 command_of (word ∷ others) =
     if bytes_eq word (codes "decode") then listing_words others else if bytes_eq word (codes "format") then format_words others else None
 
--- a fact of the form where the words ask for the listing, and one where they ask for the formatting
+-- a fact of the form where the arguments ask for the listing, and one where they ask for the formatting
 abbrev pub OnDecode : Option Command → (ListingForm → Type 0) → Type 0
 OnDecode (Some (Decode form)) Fact = Fact form
-OnDecode (Some Format) Fact = Unit {0}
-OnDecode None Fact = Unit {0}
+OnDecode _ Fact = Unit {0}
 
 abbrev pub OnFormat : Option Command → Type 0 → Type 0
 OnFormat (Some Format) fact = fact
-OnFormat (Some (Decode form)) fact = Unit {0}
-OnFormat None fact = Unit {0}
+OnFormat _ fact = Unit {0}

@@ -1,14 +1,12 @@
 -- What a run leaves, by its status.
-use Rattle.std.specs.Prelude.{◌≡◌, ℕ, ◌⊎◌, List, ◌++◌, take, Option, Some}
+use Rattle.std.specs.Prelude.{◌≡◌, ℕ, ◌⊎◌, List, ◌++◌, Option, Some}
 use Rattle.std.specs.Io.KnownBytes.{Appends, Consumes, IsAtEnd}
 use Rattle.gp_base.specs.Outside.{Rose}
-use Rattle.gp_app.specs.declared.status.Status.{Status}
-use Rattle.gp_app.specs.declared.status.Status.TheVariants.{Done, BadLine, Usage, ReadFault, WriteFault, DiskFault, NoMemory, DiskRefused, Worn, TooLong}
-use Rattle.gp_app.specs.Outcome.{Outcome, outcome, complete}
-
--- the first text is a front of the second
-abbrev pub IsFront : List ℕ → List ℕ → Type 0
-IsFront front text = (rest : List ℕ) × (text ≡ front ++ rest)
+use Rattle.gp_lines.specs.declared.status.Status.{Status}
+use Rattle.gp_lines.specs.declared.status.Status.TheVariants.{Done, BadLine, ReadFault, WriteFault, NoMemory, TooLong}
+use Rattle.gp_lines.specs.Lines.{complete}
+use Rattle.gp_lines.specs.Leaves.{IsFront}
+use Rattle.gp_app.specs.Outcome.{Outcome, outcome}
 
 -- the octets that were read settle the outcome, whatever would come after them
 abbrev pub Settles : (List ℕ → Option (List ℕ)) → List ℕ → Outcome → Type 0
@@ -36,10 +34,7 @@ Fits listing TooLong left read written = Decides listing left read (record { tex
 Fits listing ReadFault left read written = IsOpen listing read written
 Fits listing WriteFault left read written = IsPart listing left read written
 Fits listing NoMemory left read written = IsPart listing left read written
-Fits listing Usage left read written = ⊥
-Fits listing DiskFault left read written = ⊥
-Fits listing (DiskRefused reason) left read written = ⊥
-Fits listing (Worn generation) left read written = ⊥
+Fits listing _ left read written = ⊥
 
 -- Some octets were read and some written, and they fit the status.
 pub record Leaves (listing : List ℕ → Option (List ℕ)) (status : Status) (left_before left_after written_before written_after : Option (List ℕ)) : Type 0 where
@@ -49,24 +44,8 @@ pub record Leaves (listing : List ℕ → Option (List ℕ)) (status : Status) (
   pub appended : Appends written_before written_after written
   pub fits : Fits listing status left_after read written
 
--- The count of the object that a fault names rose, and every other count stands.
-abbrev pub Counts : Status → ℕ → ℕ → ℕ → ℕ → Type 0
-Counts ReadFault source_before source_after out_before out_after = Rose source_before source_after × (out_after ≡ out_before)
-Counts WriteFault source_before source_after out_before out_after = (source_after ≡ source_before) × Rose out_before out_after
-Counts _ source_before source_after out_before out_after = (source_after ≡ source_before) × (out_after ≡ out_before)
-
 -- Where every line of the whole input is listed and no count of faults rises, the run is done, or memory wasn't found.
 abbrev pub Completes : (List ℕ → Option (List ℕ)) → Status → Option (List ℕ) → ℕ → ℕ → ℕ → ℕ → Type 0
 Completes listing status left source_before source_after out_before out_after =
     (input : List ℕ) → left ≡ Some input → (outcome listing input).status ≡ Done →
     (Rose source_before source_after → ⊥) → (Rose out_before out_after → ⊥) → (status ≡ Done) ⊎ (status ≡ NoMemory)
-
--- A last text is written and the status answered, or a front of it and a write fault; where memory wasn't found, nothing is.
-abbrev pub SaysOr : Status → Status → Option (List ℕ) → Option (List ℕ) → List ℕ → ℕ → ℕ → Type 0
-SaysOr status result before after text faults_before faults_after =
-    ((result ≡ status) × Appends before after text × (faults_after ≡ faults_before))
-    ⊎ ((result ≡ WriteFault) × ((count : ℕ) × Appends before after (take count text)) × Rose faults_before faults_after)
-
-abbrev pub Says : Status → Status → Option (List ℕ) → Option (List ℕ) → List ℕ → ℕ → ℕ → Type 0
-Says NoMemory result before after text faults_before faults_after = (result ≡ NoMemory) × (after ≡ before) × (faults_after ≡ faults_before)
-Says status result before after text faults_before faults_after = SaysOr status result before after text faults_before faults_after

@@ -1,11 +1,5 @@
 pub mod Command
-pub mod Form
+pub mod Decoding
 pub mod Formatting
 pub mod Leaves
-pub mod Json
-pub mod Listing
-pub mod Messages
-pub mod Opening
 pub mod Outcome
-pub mod Stream
-pub mod Texts

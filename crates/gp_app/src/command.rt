@@ -1,15 +1,15 @@
-//! The words of the command line.
+//! The arguments of the command line.
 
 ghost use Rattle.std.specs.Prelude.{◌≡◌, codes};
 ghost use Rattle.std.specs.Str.{bytes_eq};
 ghost use Rattle.gp_app.specs.Command as spec;
 ghost use Rattle.gp_app.specs.Command.{command_of, key_of};
 
-use crate::form::{ListingForm, Style};
 use gp_base::{Key, Word};
+use gp_listing::{ListingForm, Style};
 
-/// What the words ask for.
-#[derive(Clone, Copy, PartialEq, Eq, Debug)]
+/// What the arguments ask for.
+#[derive(Clone, Copy)]
 pub enum Command {
     /// The listing of a capture, in this form.
     Decode(ListingForm),
@@ -17,7 +17,7 @@ pub enum Command {
     Format,
 }
 
-/// What these words ask for, and `None` where they are no form of the command line.
+/// What these arguments ask for, and `None` where they are no form of the command line.
 pub fn read_command(words: &[Word]) -> Option<Command>
     ensures { result ≡ command_of words.now }
 {
@@ -33,7 +33,7 @@ pub fn read_command(words: &[Word]) -> Option<Command>
     None
 }
 
-// What follows the word `decode`.
+// What follows `decode`.
 fn listing_words(words: &[Word]) -> Option<Command>
     ensures { result ≡ spec.listing_words words.now }
 {
@@ -57,7 +57,7 @@ fn listing_words(words: &[Word]) -> Option<Command>
     }
 }
 
-// What follows the word `format`.
+// What follows `format`.
 fn format_words(words: &[Word]) -> Option<Command>
     ensures { result ≡ spec.format_words words.now }
 {

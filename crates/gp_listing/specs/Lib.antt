@@ -1,0 +1,6 @@
+pub mod Form
+pub mod Json
+pub mod Listing
+pub mod Messages
+pub mod Opening
+pub mod Texts
