@@ -1,4 +1,4 @@
-"""Prints a capture of frames and messages made by chance, good and ill: capture.py SEED LINES. The same seed gives the same
+"""Prints a capture of random frames and messages, good and ill: capture.py SEED LINES. The same seed gives the same
 lines."""
 import random
 import sys

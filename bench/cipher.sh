@@ -6,9 +6,9 @@
 # key. It judges no figure.
 set -u
 cd "$(dirname "$0")/.."
-program=crates/gp_cipher_bench/out/gp_cipher_bench
+program=crates/gp_bench/out/gp_bench
 if [ ! -x "$program" ]; then
-    echo "bench: no proved program; run 'rt run -- 3 16 1000' in crates/gp_cipher_bench first" >&2
+    echo "bench: no proved program; run 'rt run -- cipher 3 16 1000' in crates/gp_bench first" >&2
     exit 0
 fi
 rm -rf bench/out
@@ -36,7 +36,7 @@ seconds() {
     for _ in 1 2 3 4 5; do
         local begin end
         begin=$(date +%s%N)
-        "$1" "$2" "$3" "$frames" >/dev/null
+        "$1" cipher "$2" "$3" "$frames" >/dev/null
         end=$(date +%s%N)
         local took=$((end - begin))
         if [ -z "$best" ] || [ "$took" -lt "$best" ]; then best=$took; fi
@@ -46,7 +46,7 @@ seconds() {
 
 # instructions of a run: program, level, octets, frames
 instructions() {
-    valgrind --tool=callgrind --callgrind-out-file=/dev/null "$1" "$2" "$3" "$4" 2>&1 |
+    valgrind --tool=callgrind --callgrind-out-file=/dev/null "$1" cipher "$2" "$3" "$4" 2>&1 |
         sed -n 's/^==[0-9]*== Collected : \([0-9]*\).*/\1/p'
 }
 

@@ -1,5 +1,5 @@
 #!/usr/bin/env bash
-# Lists three captures of 200,000 short lines, all alike, and one of frames and messages made by chance, with the proved
+# Lists three captures of 200,000 short lines, all alike, and one of random frames and messages, with the proved
 # program and the words that are given (decode where none are). Of each it prints lines a second, the greatest memory that
 # was resident and, where valgrind is installed, instructions a line. For the word decode alone it lists them in the same
 # run with bench/listing.c too, a listing written apart from it in C, and prints how much faster that is. It judges no figure.
@@ -76,4 +76,4 @@ for frame in 01080AFFFFFFFF8C002143658720 010801FFFFFFFF8C302143658702000000200A
   measure "$frame" "$@"
 done
 python3 bench/capture.py 1 "$lines" > "$folder/capture"
-measure "frames and messages made by chance" "$@"
+measure "random frames and messages" "$@"

@@ -1,4 +1,4 @@
-/* The frames of crates/gp_cipher_bench sealed by mbedTLS, with the same words and the same output.
+/* The frames of `gp_bench cipher` sealed by mbedTLS, with the same arguments and the same output.
    Built with -DTABLES and the static library, the processor's AES instructions are not used. */
 #include <mbedtls/ccm.h>
 #include <stdint.h>
@@ -22,10 +22,10 @@ static void put(unsigned char *to, uint32_t number) {
 }
 
 int main(int argc, char **argv) {
-    if (argc != 4) return 2;
-    int encrypt = atoi(argv[1]) == 3;
-    size_t octets = (size_t)atoi(argv[2]);
-    uint32_t frames = (uint32_t)strtoul(argv[3], NULL, 10);
+    if (argc != 5) return 2;
+    int encrypt = atoi(argv[2]) == 3;
+    size_t octets = (size_t)atoi(argv[3]);
+    uint32_t frames = (uint32_t)strtoul(argv[4], NULL, 10);
     if (octets > 104) return 2;
     unsigned char frame[114], cipher[114], tag[4];
     unsigned char nonce[13] = {0x21, 0x43, 0x65, 0x87, 0x21, 0x43, 0x65, 0x87, 0, 0, 0, 0, 0x05};

@@ -4,9 +4,9 @@
 # proved program, each the best of five. It judges no figure.
 set -u
 cd "$(dirname "$0")/.."
-program=crates/gp_store_bench/out/gp_store_bench
+program=crates/gp_bench/out/gp_bench
 if [ ! -x "$program" ]; then
-    echo "bench: no proved program; run 'rt run -- 16 3 100' in crates/gp_store_bench first" >&2
+    echo "bench: no proved program; run 'rt run -- store 16 3 100' in crates/gp_bench first" >&2
     exit 0
 fi
 rows=${ROWS:-1024}
@@ -19,7 +19,7 @@ nanoseconds() {
     for _ in 1 2 3 4 5; do
         local begin end
         begin=$(date +%s%N)
-        "$program" "$rows" "$1" "$2" >/dev/null || return 1
+        "$program" store "$rows" "$1" "$2" >/dev/null || return 1
         end=$(date +%s%N)
         local took=$((end - begin))
         if [ -z "$best" ] || [ "$took" -lt "$best" ]; then best=$took; fi

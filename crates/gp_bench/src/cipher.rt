@@ -1,13 +1,9 @@
-//! Seals frames as a device does, so that `bench/cipher.sh` can time it: LEVEL OCTETS FRAMES, where the level is 2 or
-//! 3 and a frame has so many command octets. It prints the frames and a sum over their tags.
-#![tactic(auto)]
-
+//! Frames that are sealed.
 ghost use Rattle.std.specs.Prelude.{◌≡◌, ◌<◌, ◌≤◌};
 
-use anyhow::{Context, Result, ensure};
+use anyhow::{Result, ensure};
 use gp_base::{Key, Steps};
 use gp_ccm::{TagSize, seal};
-use std::env;
 use std::marker::Brand;
 use std::sync::ledger::{Blank, Ledger};
 
@@ -51,18 +47,9 @@ fn sum_of_tags<L: Ledger>(encrypt: bool, octets: usize, frames: u32, blank: Blan
     sum
 }
 
-fn number(word: Option<String>) -> Result<u32> {
-    let word = word.context("usage: LEVEL OCTETS FRAMES")?;
-    let value = word.as_str().parse::<u32>().context("not a number")?;
-    Ok(value)
-}
-
-fn main(rt: HostRuntime) -> Result<()> {
-    let mut words = env::args(&rt)?;
-    let _ = words.next();
-    let level = number(words.next())?;
-    let octets = number(words.next())? as usize;
-    let frames = number(words.next())?;
+/// Seals frames of a level, 2 or 3, with so many command octets, and prints how many and a sum over their tags.
+pub fn run(rt: &HostRuntime, (level, octets, frames): (u32, u32, u32)) -> Result<()> {
+    let octets = octets as usize;
     ensure!(level == 2 || level == 3, "no such level");
     ensure!(octets <= MOST, "too many octets");
     let sum = sum_of_tags::<Brand>(level == 3, octets, frames, Blank::new(1));
