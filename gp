@@ -1,114 +1,207 @@
-#!/usr/bin/env bash
-# Runs the program `gp`: the proved one where it has been made, and rebuilt where a source is newer. Where it
-# has not been made yet, the sources are run as they are, unproved, and a line on standard error says so.
+#!/bin/sh
+# Runs the program `gp`: the proved one where it has been made, and first brought up to date where a source is newer. Where
+# it hasn't been made yet, the sources are run as they are, unproved, and a line on standard error says so.
 set -u
-top=$(cd "$(dirname "$0")" && pwd)
-crate="$top/crates/gp_cli"
-program="$crate/out/gp_cli"
+self=$0
+if [ -L "$self" ]; then self=$(readlink -f -- "$self"); fi
+case $self in
+  */*) top=${self%/*} ;;
+  *) top=. ;;
+esac
+crate=$top/crates/gp_cli
+program=$crate/out/gp_cli
+# What an unproved run takes: its output has to stay below 1 MiB.
+octets=100000
+lines=2000
 
-usage() {
-  cat <<'PAGE'
-gp - Zigbee Green Power, proved
-
-  gp decode < CAPTURE      lists the frames of a capture, one line each
-  gp decode KEY < CAPTURE  the same, and opens secured frames under a key of 32 hexadecimal digits
-  gp decode --json < CAPTURE
-  gp decode --json KEY < CAPTURE
-                           lists them as JSON, one object each
-  gp format                writes an empty store of pairings into the file gp.disk of the current folder
-  gp --help                prints this page
-
-A capture has one frame or message a line, in hexadecimal digits of either case: the octets of an MPDU without FCS, or
-'zcl ' and the octets of a message of the Green Power cluster, from its ZCL header on. Lines end with LF; a CR before it is
-dropped; a last line without LF counts where it isn't empty. There are at most 1,000,000 lines of at most 1,024 octets.
-
-A frame is listed as
-  KIND seq=XX pan=XXXX dest=XXXX auto=B ext=XX src=XXXXXXXX counter=N body=HEX mic=XXXXXXXX
-    read=WORD tag=WORD
-on one line, where KIND is data or maintenance, an absent field is '-', and the counter is decimal. read is what the
-command reads as: Plain, Move, Step, Vector, Report, Commissioning, Reply, ChannelRequest, ChannelConfig or Other; or
-REASON:PLACE with Empty, Short, ValueKind, ReservedLevel or ReservedKeyKind; or '-' for a body at level 3 that isn't in
-clear. tag is good or bad for a secured frame where a KEY was given: its MIC is right under that key, or it isn't; else it
-is '-'. With a good tag the body that is shown and read is the command in clear. What is no frame is listed as
-  bad REASON PLACE
-with the first fault from the left and its place: TooLong, Short, MacForm, FrameKind, Version, AppId, LevelOne,
-SecuredMaintenance or NoCommand.
-
-A message is listed as one of
-  notification seq= quiet= options= src= counter= command= payload= proxy= link=
-  commissioning seq= quiet= options= src= counter= command= payload= proxy= link= mic=
-  pairing seq= quiet= options= src= sink= address= group= device= counter= key= alias= radius=
-  mode seq= quiet= options= window= channel=
-  response seq= quiet= options= master= channel= src= command= payload=
-with '-' for an absent field and for an empty payload, and 'none' for an unspecified one. Counters and windows are decimal,
-quiet is 0 or 1, the rest is hexadecimal. What is no message is bad with Short, HeaderForm, CommandUnknown, AppId, Mode,
-Trailing or Long.
-
-As JSON a frame is one compact object with the keys auto, body, command, counter, dest, ext, kind, mic, pan, seq, src and
-tag, a message is {"zcl":TEXT} with its listing as text, and what is refused is {"bad":REASON,"place":N}. An absent field
-is null; so are a command that is refused or isn't in clear, and a tag that isn't told. In a frame fields and octets are
-hexadecimal texts and the counter is a number. In a command its identifier, its fields of one octet, its counter and its
-time are numbers, all else is hexadecimal texts.
-
-Exit statuses, with their text on standard error after 'gp: ':
-  0  done: the input was read to its end and all of it listed, or the empty store was written
-  1  bad line N: REASON      the line is refused; the lines before it are listed
-  2  usage                   the words are none of the above
-  3  read fault              standard input failed
-  4  write fault             standard output failed
-  5  disk fault              the disk failed
-  6  no memory               memory was asked for and not found
-  7  disk refused: REASON    DiskShort, NotFormatted, AlreadyFormatted, or SlotForm and the number of the ill slot
-  8  worn at N               the disk takes no more changes
-  9  too long                there are too many lines, or a line is too wide
- 10  (of this launcher)      the toolchain isn't there or doesn't build the sources, or format comes before there is a
-                             proved program
-PAGE
-}
-
-if [ $# -eq 1 ] && { [ "$1" = --help ] || [ "$1" = -h ]; }; then
-  usage
-  exit 0
-fi
-
-# Whether the proved program is there and no source is newer.
-is_current() {
-  [ -x "$program" ] && [ -z "$(find "$top/crates.txt" "$top"/crates/*/src "$top"/crates/*/specs "$top"/crates/*/proofs -newer "$program" -type f 2>/dev/null | head -n 1)" ]
-}
-
-log=$(mktemp)
-trap 'rm -f "$log"' EXIT
+say() { echo "gp: $1" >&2; }
 
 # Says why the program can't be run, with a status that it hasn't itself.
 fail() {
-  echo "gp: $1" >&2
-  exit 10
+  say "$1"
+  exit 125
 }
 
-if ! is_current; then
+page() {
+  case $1 in
+    gp | decode | format | statuses | terms) cat -- "$top/docs/help/$1.txt" ;;
+    *) fail "there is no page '$1'; 'gp help' names the pages" ;;
+  esac
+}
+
+needs_toolchain() {
   command -v rt > /dev/null || fail "the toolchain's command rt isn't there"
-fi
-if [ -x "$program" ] && ! is_current; then
-  echo "gp: a source is newer than the program; it is proved and built again" >&2
-  if ! (cd "$crate" && rt run -- decode) < /dev/null > "$log" 2>&1; then
-    grep -v ': proved$' "$log" | tail -n 20 >&2
-    echo "gp: the sources aren't proved as they stand" >&2
+}
+
+# Whether the proved program is there and no source is newer.
+is_current() {
+  [ -x "$program" ] && [ -z "$(find "$top/crates.txt" "$top"/crates/*/src "$top"/crates/*/specs "$top"/crates/*/proofs \
+    -newer "$program" -type f -print -quit 2> /dev/null)" ]
+}
+
+# Proves what has changed and links the program. Where nothing but dates has changed, the program gets a new date.
+make_program() {
+  (cd "$crate" && rt run -- decode) < /dev/null > /dev/null 2>&1 && touch -- "$program"
+}
+
+version() {
+  commit=$(git -C "$top" rev-parse --short=12 HEAD 2> /dev/null) || commit="no commit"
+  if [ -n "$(git -C "$top" status --porcelain 2> /dev/null | head -n 1)" ]; then commit="$commit, changed"; fi
+  echo "gp $commit"
+  if command -v rt > /dev/null; then rt version; else echo "no toolchain"; fi
+}
+
+# Proves every crate, a line each, and links the program.
+build() {
+  needs_toolchain
+  count=$(grep -c '^[a-z]' "$top/crates.txt")
+  say "proving $count crates; from nothing this takes some 20 minutes on two processors, and 10 on four"
+  begun=$(date +%s)
+  (cd "$top" && rt all check --jobs "$(nproc)") < /dev/null 2>&1 | {
+    name=
+    done=0
+    while read -r line; do
+      case $line in
+        "crate "*)
+          name=${line#crate }
+          name=${name%%:*}
+          ;;
+        "logic=proved "*)
+          done=$((done + 1))
+          echo "gp: $done of $count: $name is proved ($(($(date +%s) - begun)) s)" >&2
+          ;;
+      esac
+    done
+  }
+  say "linking the program"
+  make_program || fail "the sources aren't proved as they stand; 'rt check' in a crate's folder says why"
+  say "the proved program is there ($(($(date +%s) - begun)) s)"
+}
+
+# Says more where the status alone leaves a user in doubt: the status, and where the input came from.
+explain() {
+  case $1 in
+    1) say "a line has pairs of hexadecimal digits, or 'zcl ' and such pairs; 'gp help decode' says more" ;;
+    2) say "'gp --help' has the commands" ;;
+    3) say "$2 can't be read" ;;
+    5) say "the disk is the file gp.disk in $PWD" ;;
+    7) say "the disk is the file gp.disk in $PWD; 'gp help format' says more" ;;
+    9) say "in $2: at most 1,000,000 lines of at most 1,024 characters can be listed" ;;
+  esac
+}
+
+# Lists the standard input by the sources as they are. Nothing of the toolchain's own text is shown.
+look() {
+  needs_toolchain
+  case "$*" in
+    *[!\ -~]*)
+      say usage
+      return 2
+      ;;
+  esac
+  [ "${1-}" != format ] || fail "format wants the proved program; 'gp --build' makes it, once"
+  folder=$(mktemp -d 2> /dev/null) || fail "there is no folder for temporary files at ${TMPDIR:-/tmp}"
+  trap 'rm -rf "$folder"' EXIT
+  trap 'exit 130' INT TERM
+  if ! head -c $((octets + 1)) > "$folder/in" 2> /dev/null; then
+    say "read fault"
+    return 3
+  fi
+  if [ "$(wc -c < "$folder/in")" -gt $octets ] || [ "$(wc -l < "$folder/in")" -gt $lines ]; then
+    fail "unproved, at most $lines lines of together $octets octets can be listed; 'gp --build' makes the proved program, once"
+  fi
+  say "unproved: this runs the sources as they are, for about half a minute; 'gp --build' makes the proved program, once"
+  (cd "$crate" && rt try -- "$@") < "$folder/in" > "$folder/out" 2> "$folder/err"
+  status=$?
+  if [ "$status" != 0 ] && ! grep -q '^gp: ' "$folder/err"; then
+    fail "the sources can't be run; 'rt try -- decode' in crates/gp_cli says why"
+  fi
+  if ! cat "$folder/out" 2> /dev/null; then
+    say "write fault"
+    return 4
+  fi
+  grep '^gp: ' "$folder/err" >&2
+  return "$status"
+}
+
+# Whether these are 32 hexadecimal digits.
+is_key() {
+  case $1 in *[!0-9A-Fa-f]*) return 1 ;; esac
+  [ ${#1} = 32 ]
+}
+
+# Whether a file is there that isn't all zeros and whose first octet isn't that of a store.
+has_other_content() {
+  [ -f "$1" ] && [ "$(od -An -tx1 -N1 < "$1" | tr -d ' ')" != a5 ] && [ "$(tr -d '\000' < "$1" | head -c 1 | wc -c)" != 0 ]
+}
+
+case ${1-} in
+  --help | -h | help)
+    page "${2-gp}"
+    exit 0
+    ;;
+  --version)
+    version
+    exit 0
+    ;;
+  --build)
+    build
+    exit 0
+    ;;
+esac
+
+# The last argument of decode is a file, where it is no option and no key.
+input="standard input"
+if [ "${1-}" = decode ] && [ $# -gt 1 ] && [ $# -le 4 ]; then
+  for last in "$@"; do :; done
+  case $last in
+    --*) ;;
+    -) count=$(($# - 1)) ;;
+    *) is_key "$last" || { input=$last; count=$(($# - 1)); } ;;
+  esac
+  if [ -n "${count-}" ]; then
+    # Drops the last argument.
+    for word in "$@"; do
+      shift
+      if [ "$count" -gt 0 ]; then set -- "$@" "$word"; fi
+      count=$((count - 1))
+    done
   fi
 fi
+if [ "$input" != "standard input" ]; then
+  if [ -d "$input" ] || ! [ -r "$input" ]; then
+    say "read fault"
+    if [ -d "$input" ]; then
+      say "$input is a folder"
+    elif [ -e "$input" ]; then
+      say "$input can't be read"
+    else
+      say "there is no file $input; a KEY has 32 hexadecimal digits"
+    fi
+    exit 3
+  fi
+  exec < "$input"
+fi
+if [ "${1-}" = format ] && [ "${2-}" = --force ] && [ $# = 2 ]; then
+  set -- format
+elif [ "${1-}" = format ] && [ $# = 1 ] && has_other_content gp.disk; then
+  fail "gp.disk is there and holds no store, but other content; 'gp format --force' overwrites it"
+fi
+
+if [ -x "$program" ] && ! is_current; then
+  needs_toolchain
+  say "a source is newer than the program; what has changed is proved again"
+  make_program || say "the sources aren't proved as they stand"
+fi
 if is_current; then
-  rm -f "$log"
-  exec "$program" "$@"
+  "$program" "$@"
+else
+  look "$@"
 fi
-# The sources are run in their own folder, so they find no gp.disk of this one.
-if [ $# -eq 1 ] && [ "$1" = format ]; then
-  fail "format wants the proved program: run 'rt run -- decode </dev/null' in crates/gp_cli first"
-fi
-echo "gp: this run is of the sources, unproved; 'rt run -- decode </dev/null' in crates/gp_cli makes the proved program" >&2
-(cd "$crate" && rt try -- "$@" 2> "$log")
 status=$?
-if [ "$status" = 0 ] || grep -q '^gp: ' "$log"; then
-  grep '^gp: ' "$log" >&2
-  exit "$status"
+if [ "$status" = 0 ]; then
+  if [ "${1-}" = format ]; then sync . 2> /dev/null; fi
+  exit 0
 fi
-cat "$log" >&2
-fail "the sources can't be run"
+explain "$status" "$input"
+exit "$status"
