@@ -6,7 +6,7 @@ use Rattle.std.specs.Str.{bytes_eq}
 use Rattle.std.proofs.lemmas.Bool.{and_parts, and_from, cases_Bool}
 use Rattle.std.proofs.lemmas.Slice.Eq.{bytes_eq-Decides}
 use Rattle.gp_base.specs.Table.{let_else}
-use Rattle.gp_script.specs.Kinds.{Kind, Parse, no_more, keyed, applied, whole, next, nothing, one, two, three, four, five, six, seven, eight, by, all_fit}
+use Rattle.gp_script.specs.Kinds.{Kind, Parse, no_more, keyed, applied, whole, next, nothing, one, two, three, four, five, six, seven, eight, nine, by, all_fit}
 use Rattle.gp_script.specs.Words.{words, is_done}
 use Rattle.gp_script.proofs.Splitting.{are_plain}
 use Rattle.gp_script.proofs.KindLaws.{IsKind}
@@ -69,6 +69,10 @@ pub eight_back : {A B C D E F G H R : Type 0} {a : Kind A} {b : Kind B} {c : Kin
     → ((x : A) (y : B) (z : C) (u : D) (v : E) (w : F) (s : G) (t : H) (rest : List (List ℕ)) → all_fit (by a x ∷ by b y ∷ by c z ∷ by d u ∷ by e v ∷ by f w ∷ by g s ∷ by h t ∷ []) ≡ true → Fact (a.text x ∷ b.text y ∷ c.text z ∷ d.text u ∷ e.text v ∷ f.text w ∷ g.text s ∷ h.text t ∷ rest) (make x y z u v w s t) rest) → Back (eight a b c d e f g h make) Fact
 eight_back {a = a} {b = b} {c = c} {d = d} {e = e} {f = f} {g = g} {h = h} ka kb kc kd ke kf kg kh make Fact step = first_back a ka (λ x. seven b c d e f g h (make x)) Fact (λ x fit. seven_back kb kc kd ke kf kg kh (make x) (λ ws value rest. Fact (a.text x ∷ ws) value rest) (λ y z u v w s t rest fits. step x y z u v w s t rest (and_from _ _ fit fits)))
 
+pub nine_back : {A B C D E F G H I R : Type 0} {a : Kind A} {b : Kind B} {c : Kind C} {d : Kind D} {e : Kind E} {f : Kind F} {g : Kind G} {h : Kind H} {i : Kind I} → IsKind a → IsKind b → IsKind c → IsKind d → IsKind e → IsKind f → IsKind g → IsKind h → IsKind i → (make : A → B → C → D → E → F → G → H → I → R) (Fact : List (List ℕ) → R → List (List ℕ) → Type 0)
+    → ((x : A) (y : B) (z : C) (u : D) (v : E) (w : F) (s : G) (t : H) (p : I) (rest : List (List ℕ)) → all_fit (by a x ∷ by b y ∷ by c z ∷ by d u ∷ by e v ∷ by f w ∷ by g s ∷ by h t ∷ by i p ∷ []) ≡ true → Fact (a.text x ∷ b.text y ∷ c.text z ∷ d.text u ∷ e.text v ∷ f.text w ∷ g.text s ∷ h.text t ∷ i.text p ∷ rest) (make x y z u v w s t p) rest) → Back (nine a b c d e f g h i make) Fact
+nine_back {a = a} {b = b} {c = c} {d = d} {e = e} {f = f} {g = g} {h = h} {i = i} ka kb kc kd ke kf kg kh ki make Fact step = first_back a ka (λ x. eight b c d e f g h i (make x)) Fact (λ x fit. eight_back kb kc kd ke kf kg kh ki (make x) (λ ws value rest. Fact (a.text x ∷ ws) value rest) (λ y z u v w s t p rest fits. step x y z u v w s t p rest (and_from _ _ fit fits)))
+
 -- the texts of words are read, and none has a space
 first_again : {A B : Type 0} (kind : Kind A) → IsKind kind → (next_ : A → Parse B) (x : A) (ws : List (List ℕ)) (found : Option (B × List (List ℕ))) → kind.fits x ≡ true
     → next_ x ws ≡ found → let_else {A = A × List (List ℕ)} (next kind (kind.text x ∷ ws)) None (λ f. next_ f.0 f.1) ≡ found
@@ -128,6 +132,13 @@ eight_again {a = a} {b = b} {c = c} {d = d} {e = e} {f = f} {g = g} {h = h} ka k
     let fit = and_parts _ _ fits in
     let more = seven_again kb kc kd ke kf kg kh (make x) y z u v w s t rest fit.1 in
     (first_again a ka (λ x. seven b c d e f g h (make x)) x _ _ fit.0 more.0, and_from _ _ (ka.plain x fit.0) more.1)
+
+pub nine_again : {A B C D E F G H I R : Type 0} {a : Kind A} {b : Kind B} {c : Kind C} {d : Kind D} {e : Kind E} {f : Kind F} {g : Kind G} {h : Kind H} {i : Kind I} → IsKind a → IsKind b → IsKind c → IsKind d → IsKind e → IsKind f → IsKind g → IsKind h → IsKind i → (make : A → B → C → D → E → F → G → H → I → R) (x : A) (y : B) (z : C) (u : D) (v : E) (w : F) (s : G) (t : H) (p : I) (rest : List (List ℕ)) → all_fit (by a x ∷ by b y ∷ by c z ∷ by d u ∷ by e v ∷ by f w ∷ by g s ∷ by h t ∷ by i p ∷ []) ≡ true
+    → (nine a b c d e f g h i make (a.text x ∷ b.text y ∷ c.text z ∷ d.text u ∷ e.text v ∷ f.text w ∷ g.text s ∷ h.text t ∷ i.text p ∷ rest) ≡ Some (make x y z u v w s t p, rest)) × (are_plain (a.text x ∷ b.text y ∷ c.text z ∷ d.text u ∷ e.text v ∷ f.text w ∷ g.text s ∷ h.text t ∷ i.text p ∷ []) ≡ true)
+nine_again {a = a} {b = b} {c = c} {d = d} {e = e} {f = f} {g = g} {h = h} {i = i} ka kb kc kd ke kf kg kh ki make x y z u v w s t p rest fits =
+    let fit = and_parts _ _ fits in
+    let more = eight_again kb kc kd ke kf kg kh ki (make x) y z u v w s t p rest fit.1 in
+    (first_again a ka (λ x. eight b c d e f g h i (make x)) x _ _ fit.0 more.0, and_from _ _ (ka.plain x fit.0) more.1)
 
 -- a line of a table
 pub line_back : {B : Type 0} (keyword here : List ℕ) (parse others : Parse B) (Fact : List ℕ → List (List ℕ) → B → List (List ℕ) → Type 0)

@@ -2,11 +2,13 @@
 use Rattle.std.proofs.Common.{◌≡◌, ℕ, Bool, true, false, List, [], ◌∷◌, Option, ◌++◌, length, take, drop, Some, None, refl, sym, ap, subst, ◌∙◌, inl, inr, arith}
 use Rattle.std.specs.Prelude.{codes}
 use Rattle.gp_script.specs.Kinds
-use Rattle.gp_script.specs.Kinds.{Kind, upper, source, octets, number_up_to, flag, key_kind, level, or_word, name}
+use Rattle.gp_script.specs.Kinds.{Kind, upper, source, octets, number_up_to, flag, key_kind, level, mode, or_word, name}
 use Rattle.gp_script.specs.Script.{number32, number64}
-use Rattle.gp_script.specs.Report.{number16, octet, address16, dest, refusal, frame_fault, command_fault, plain_cause, refusals, refusal_text, cause_text, plain_causes, frame_text, frame_faults, command_text, command_faults}
+use Rattle.gp_script.specs.Report.{number16, octet, address16, dest, refusal, rule_answer, frame_fault, command_fault, plain_cause, refusals, refusal_text, rule_answers, rule_text, cause_text, plain_causes, frame_text, frame_faults, command_text, command_faults}
 use Rattle.gp_script.specs.declared.report.Refusal.{Refusal}
 use Rattle.gp_script.specs.declared.report.Refusal.TheVariants as refused
+use Rattle.gp_script.specs.declared.report.RuleAnswer.{RuleAnswer}
+use Rattle.gp_script.specs.declared.report.RuleAnswer.TheVariants as rules
 use Rattle.gp_script.specs.declared.report.FrameFault.{FrameFault}
 use Rattle.gp_script.specs.declared.report.FrameFault.TheVariants as frame
 use Rattle.gp_script.specs.declared.report.CommandFault.{CommandFault}
@@ -17,6 +19,8 @@ use Rattle.gp_base.specs.declared.identity.KeyKind.{KeyKind}
 use Rattle.gp_base.specs.declared.identity.KeyKind.TheVariants as key
 use Rattle.gp_base.specs.declared.identity.Level.{Level}
 use Rattle.gp_base.specs.declared.identity.Level.TheVariants as lvl
+use Rattle.gp_base.specs.declared.identity.Mode.{Mode}
+use Rattle.gp_base.specs.declared.identity.Mode.TheVariants as modes
 use Rattle.std.specs.Option.{option_map}
 use Rattle.std.specs.Str.{bytes_eq}
 use Rattle.std.proofs.lemmas.Bool.{cases_Bool}
@@ -78,6 +82,14 @@ level_again lvl.Three = (refl, refl)
 pub level_is : IsKind level
 level_is = among_is (lvl.Two ∷ lvl.Three ∷ []) Kinds.level_text (λ v. (level_again v).0) (λ v. (level_again v).1)
 
+mode_again : (v : Mode) → (Kinds.among_in (modes.Derived ∷ modes.Commissioned ∷ modes.Unicast ∷ []) Kinds.mode_text (Kinds.mode_text v) ≡ Some v) × (is_plain (Kinds.mode_text v) ≡ true)
+mode_again modes.Derived = (refl, refl)
+mode_again modes.Commissioned = (refl, refl)
+mode_again modes.Unicast = (refl, refl)
+
+pub mode_is : IsKind mode
+mode_is = among_is (modes.Derived ∷ modes.Commissioned ∷ modes.Unicast ∷ []) Kinds.mode_text (λ v. (mode_again v).0) (λ v. (mode_again v).1)
+
 -- a word with a text in front
 with_front : (front word : List ℕ) → bytes_eq (take (length front) word) front ≡ true → word ≡ front ++ drop (length front) word
 with_front front word h = sym (take-append-drop (length front) word) ∙ ap (λ (l : List ℕ). l ++ drop (length front) word) ((bytes_eq-Decides _ front).0 h)
@@ -129,6 +141,15 @@ refusal_again refused.TableFull = (refl, refl)
 
 pub refusal_is : IsKind refusal
 refusal_is = among_is refusals refusal_text (λ v. (refusal_again v).0) (λ v. (refusal_again v).1)
+
+rule_answer_again : (v : RuleAnswer) → (Kinds.among_in rule_answers rule_text (rule_text v) ≡ Some v) × (is_plain (rule_text v) ≡ true)
+rule_answer_again rules.Added = (refl, refl)
+rule_answer_again rules.Form = (refl, refl)
+rule_answer_again rules.Full = (refl, refl)
+rule_answer_again rules.Many = (refl, refl)
+
+pub rule_answer_is : IsKind rule_answer
+rule_answer_is = among_is rule_answers rule_text (λ v. (rule_answer_again v).0) (λ v. (rule_answer_again v).1)
 
 frame_word_again : (v : FrameFault) → (Kinds.among_in frame_faults frame_text (frame_text v) ≡ Some v) × (is_plain (frame_text v) ≡ true)
 frame_word_again frame.TooLong = (refl, refl)

@@ -7,21 +7,21 @@ use Rattle.std.proofs.lemmas.List.{append-nil}
 use Rattle.std.proofs.lemmas.Bool.{and_parts, and_from, cases_Bool}
 use Rattle.gp_base.specs.Table.{let_else}
 use Rattle.gp_script.specs.Kinds
-use Rattle.gp_script.specs.Kinds.{Parse, Printed, texts, all_fit, keyed, nothing, one, two, three, five, eight, upper, source, hex, octets, number_up_to, flag, key_kind, level, or_word, name, applied, whole}
+use Rattle.gp_script.specs.Kinds.{Parse, Printed, texts, all_fit, keyed, nothing, one, two, three, five, nine, upper, source, hex, octets, number_up_to, flag, key_kind, level, mode, or_word, name, applied, whole}
 use Rattle.gp_script.specs.Words.{words, line_of, is_done}
 use Rattle.gp_script.specs.Script.{tested_in, number32, number64}
-use Rattle.gp_script.specs.Report.{entry_of, text_of, has_line, entry, entry_words, is_named, report_words, dropped_words, verdict, sent, answered, dropped, plain, number16, octet, address16, dest, refusal, frame_fault, command_fault, plain_cause}
+use Rattle.gp_script.specs.Report.{entry_of, text_of, has_line, entry, entry_words, is_named, report_words, dropped_words, verdict, sent, shown, answered, dropped, plain, number16, octet, address16, dest, refusal, rule_answer, frame_fault, command_fault, plain_cause}
 use Rattle.gp_script.specs.declared.report.Entry.{Entry}
 use Rattle.gp_script.specs.declared.report.Report.{Report}
-use Rattle.gp_script.specs.declared.report.Report.TheVariants.{Paired, Unpaired, Acted, Refused, Drop, Put, Air, Zcl, Closed, End}
+use Rattle.gp_script.specs.declared.report.Report.TheVariants.{Paired, Unpaired, Acted, Refused, Drop, Put, Air, Zcl, Rule, Rows, Row, Closed, End}
 use Rattle.gp_script.specs.declared.report.Dropped.{Dropped}
 use Rattle.gp_script.specs.declared.report.Cause.{Cause}
 use Rattle.gp_script.specs.declared.report.Dropped.TheVariants.{Malformed, CommandIll, Stale, Plain}
 use Rattle.gp_script.specs.declared.report.Cause.TheVariants as cause
 use Rattle.gp_script.proofs.Splitting.{are_plain, words-line_of, line_of-words, ArePlain-test}
 use Rattle.gp_script.proofs.KindLaws.{node_is}
-use Rattle.gp_script.proofs.ReportKinds.{number16_is, number32_is, number64_is, octet_is, address_is, source_is, octets_is, flag_is, dest_is, refusal_is, frame_fault_is, command_fault_is, plain_cause_is, byte_is, four_is}
-use Rattle.gp_script.proofs.FormLaws.{Back, nothing_back, one_back, two_back, three_back, five_back, one_again, two_again, three_again, five_again, line_back, last_back, keyed_back, made_back, applied_back, whole_back}
+use Rattle.gp_script.proofs.ReportKinds.{number16_is, number32_is, number64_is, octet_is, address_is, source_is, octets_is, flag_is, key_kind_is, level_is, mode_is, dest_is, refusal_is, rule_answer_is, frame_fault_is, command_fault_is, plain_cause_is, byte_is, four_is}
+use Rattle.gp_script.proofs.FormLaws.{Back, nothing_back, one_back, two_back, three_back, five_back, nine_back, one_again, two_again, three_again, five_again, nine_again, line_back, last_back, keyed_back, made_back, applied_back, whole_back}
 
 -- ---- what is read is printed so
 
@@ -56,12 +56,20 @@ answered_back k =
     (line_back k (codes "end") (nothing End) _ Tells (nothing_back _ _ (λ rest. (refl, refl)))
     (last_back k _))
 
+shown_back : (k : List ℕ) → Back (shown k) (Tells k)
+shown_back k =
+    line_back k (codes "rule") (one rule_answer Rule) _ Tells (one_back rule_answer_is _ _ (λ answer rest fits. (refl, fits)))
+    (line_back k (codes "rows") (one number16 Rows) _ Tells (one_back number16_is _ _ (λ count rest fits. (refl, fits)))
+    (line_back k (codes "row") (nine number16 (upper source) key_kind level mode address16 octet flag number32 Row) _ Tells
+    (nine_back number16_is source_is key_kind_is level_is mode_is address_is octet_is flag_is number32_is _ _ (λ row src kind lvl way group device live floor rest fits. (refl, fits)))
+    (answered_back k)))
+
 sent_back : (k : List ℕ) → Back (sent k) (Tells k)
 sent_back k =
     line_back k (codes "put") (three number64 dest (upper octets) Put) _ Tells (three_back number64_is dest_is octets_is _ _ (λ message to sent rest fits. (refl, fits)))
     (line_back k (codes "air") (two number64 (upper octets) Air) _ Tells (two_back number64_is octets_is _ _ (λ frame sent rest fits. (refl, fits)))
     (line_back k (codes "zcl") (five octet address16 flag octet (upper octets) Zcl) _ Tells (five_back octet_is address_is flag_is octet_is octets_is _ _ (λ endpoint cluster general id payload rest fits. (refl, fits)))
-    (answered_back k)))
+    (shown_back k)))
 
 verdict_back : (k : List ℕ) → Back (verdict k) (Tells k)
 verdict_back k =
@@ -104,6 +112,9 @@ report_again (Drop cause) rest fits = let part = dropped_again cause rest fits i
 report_again (Put message to sent) rest fits = three_again number64_is dest_is octets_is _ message to sent rest fits
 report_again (Air frame sent) rest fits = two_again number64_is octets_is _ frame sent rest fits
 report_again (Zcl endpoint cluster general id payload) rest fits = five_again octet_is address_is flag_is octet_is octets_is _ endpoint cluster general id payload rest fits
+report_again (Rule answer) rest fits = one_again rule_answer_is _ answer rest fits
+report_again (Rows count) rest fits = one_again number16_is _ count rest fits
+report_again (Row row src kind lvl way group device live floor) rest fits = nine_again number16_is source_is key_kind_is level_is mode_is address_is octet_is flag_is number32_is _ row src kind lvl way group device live floor rest fits
 report_again Closed rest fits = (refl, refl)
 report_again End rest fits = (refl, refl)
 

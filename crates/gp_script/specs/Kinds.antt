@@ -14,6 +14,8 @@ use Rattle.gp_base.specs.declared.identity.KeyKind.{KeyKind}
 use Rattle.gp_base.specs.declared.identity.KeyKind.TheVariants.{Nwk, Group, DerivedGroup, OutOfBox, DerivedIndividual}
 use Rattle.gp_base.specs.declared.identity.Level.{Level}
 use Rattle.gp_base.specs.declared.identity.Level.TheVariants.{Two, Three}
+use Rattle.gp_base.specs.declared.identity.Mode.{Mode}
+use Rattle.gp_base.specs.declared.identity.Mode.TheVariants as modes
 
 -- a kind of words: what a word of it is read as, how a value is printed, and which values have a word
 pub record Kind (A : Type 0) : Type 0 where
@@ -138,6 +140,14 @@ level_text Three = codes "3"
 abbrev pub level : Kind Level
 level = among (Two ∷ Three ∷ []) level_text
 
+abbrev pub mode_text : Mode → List ℕ
+mode_text modes.Derived = codes "1"
+mode_text modes.Commissioned = codes "2"
+mode_text modes.Unicast = codes "3"
+
+abbrev pub mode : Kind Mode
+mode = among (modes.Derived ∷ modes.Commissioned ∷ modes.Unicast ∷ []) mode_text
+
 abbrev pub flag_text : Bool → List ℕ
 flag_text false = codes "0"
 flag_text true = codes "1"
@@ -184,6 +194,9 @@ seven a b c d e f g make words = let_else (next a words) None (λ x. six b c d e
 
 abbrev pub eight : {A B C D E F G H I : Type 0} → Kind A → Kind B → Kind C → Kind D → Kind E → Kind F → Kind G → Kind H → (A → B → C → D → E → F → G → H → I) → Parse I
 eight a b c d e f g h make words = let_else (next a words) None (λ x. seven b c d e f g h (make x.0) x.1)
+
+abbrev pub nine : {A B C D E F G H I J : Type 0} → Kind A → Kind B → Kind C → Kind D → Kind E → Kind F → Kind G → Kind H → Kind I → (A → B → C → D → E → F → G → H → I → J) → Parse J
+nine a b c d e f g h i make words = let_else (next a words) None (λ x. eight b c d e f g h i (make x.0) x.1)
 
 -- what the words in front make of what is read behind them
 abbrev pub applied : {A B : Type 0} → Parse (A → B) → Parse A → Parse B

@@ -4,15 +4,17 @@ use Rattle.std.specs.Option.{option_map, is_some}
 use Rattle.std.specs.Str.{bytes_eq}
 use Rattle.std.specs.Int.{w8, w16}
 use Rattle.gp_script.specs.Words.{line_of}
-use Rattle.gp_script.specs.Kinds.{Parse, Kind, nothing, one, two, three, five, applied, by_keyword, no_more, keyed, whole, or_word, upper, upper_in, among, flag, name, source, hex, hex_in, octets, number_up_to, Printed, by, word, texts, all_fit}
+use Rattle.gp_script.specs.Kinds.{Parse, Kind, nothing, one, two, three, five, nine, applied, by_keyword, no_more, keyed, whole, or_word, upper, upper_in, among, flag, key_kind, level, mode, name, source, hex, hex_in, octets, number_up_to, Printed, by, word, texts, all_fit}
 use Rattle.gp_script.specs.Script.{tested_in, number32, number64}
 use Rattle.gp_script.specs.declared.report.Entry.{Entry}
 use Rattle.gp_script.specs.declared.report.Report.{Report}
-use Rattle.gp_script.specs.declared.report.Report.TheVariants.{Paired, Unpaired, Acted, Refused, Drop, Put, Air, Zcl, Closed, End}
+use Rattle.gp_script.specs.declared.report.Report.TheVariants.{Paired, Unpaired, Acted, Refused, Drop, Put, Air, Zcl, Rule, Rows, Row, Closed, End}
 use Rattle.gp_script.specs.declared.report.Dest.{Dest}
 use Rattle.gp_script.specs.declared.report.Dest.TheVariants as to
 use Rattle.gp_script.specs.declared.report.Refusal.{Refusal}
 use Rattle.gp_script.specs.declared.report.Refusal.TheVariants as refused
+use Rattle.gp_script.specs.declared.report.RuleAnswer.{RuleAnswer}
+use Rattle.gp_script.specs.declared.report.RuleAnswer.TheVariants as rules
 use Rattle.gp_script.specs.declared.report.FrameFault.{FrameFault}
 use Rattle.gp_script.specs.declared.report.FrameFault.TheVariants as frame
 use Rattle.gp_script.specs.declared.report.CommandFault.{CommandFault}
@@ -70,6 +72,18 @@ refusals = refused.NotListening ∷ refused.BadSource ∷ refused.LevelLow ∷ r
 
 abbrev pub refusal : Kind Refusal
 refusal = among refusals refusal_text
+
+abbrev pub rule_text : RuleAnswer → List ℕ
+rule_text rules.Added = codes "added"
+rule_text rules.Form = codes "form"
+rule_text rules.Full = codes "full"
+rule_text rules.Many = codes "many"
+
+abbrev pub rule_answers : List RuleAnswer
+rule_answers = rules.Added ∷ rules.Form ∷ rules.Full ∷ rules.Many ∷ []
+
+abbrev pub rule_answer : Kind RuleAnswer
+rule_answer = among rule_answers rule_text
 
 abbrev pub frame_text : FrameFault → List ℕ
 frame_text frame.TooLong = codes "TooLong"
@@ -138,12 +152,20 @@ answered = by_keyword (
     ∷ (codes "end", nothing End)
     ∷ []) no_more
 
+-- what a sink says of its rules and rows
+abbrev pub shown : List ℕ → Parse Report
+shown = by_keyword (
+    (codes "rule", one rule_answer Rule)
+    ∷ (codes "rows", one number16 Rows)
+    ∷ (codes "row", nine number16 (upper source) key_kind level mode address16 octet flag number32 Row)
+    ∷ []) answered
+
 abbrev pub sent : List ℕ → Parse Report
 sent = by_keyword (
     (codes "put", three number64 dest (upper octets) Put)
     ∷ (codes "air", two number64 (upper octets) Air)
     ∷ (codes "zcl", five octet address16 flag octet (upper octets) Zcl)
-    ∷ []) answered
+    ∷ []) shown
 
 abbrev pub verdict : List ℕ → Parse Report
 verdict = by_keyword (
@@ -185,6 +207,9 @@ report_words (Drop cause) = word (codes "drop") ∷ dropped_words cause
 report_words (Put message where_to sent) = word (codes "put") ∷ by number64 message ∷ by dest where_to ∷ by octets sent ∷ []
 report_words (Air frame sent) = word (codes "air") ∷ by number64 frame ∷ by octets sent ∷ []
 report_words (Zcl endpoint cluster general id payload) = word (codes "zcl") ∷ by octet endpoint ∷ by address16 cluster ∷ by flag general ∷ by octet id ∷ by octets payload ∷ []
+report_words (Rule answer) = word (codes "rule") ∷ by rule_answer answer ∷ []
+report_words (Rows count) = word (codes "rows") ∷ by number16 count ∷ []
+report_words (Row row src kind lvl way group device live floor) = word (codes "row") ∷ by number16 row ∷ by source src ∷ by key_kind kind ∷ by level lvl ∷ by mode way ∷ by address16 group ∷ by octet device ∷ by flag live ∷ by number32 floor ∷ []
 report_words Closed = word (codes "closed") ∷ []
 report_words End = word (codes "end") ∷ []
 

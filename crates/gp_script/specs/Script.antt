@@ -4,9 +4,11 @@ use Rattle.std.specs.Option.{option_map}
 use Rattle.std.specs.Str.{bytes_eq}
 use Rattle.std.specs.Int.{w8, w16, w64, to_be_bytes}
 use Rattle.hex.specs.Hex.{encode_upper}
-use Rattle.gp_script.specs.Kinds.{Parse, Kind, one, two, three, seven, applied, by_keyword, no_more, keyed, whole, or_word, name, source, key, key_kind, level, hex, hex_in, octets, number_up_to}
+use Rattle.gp_script.specs.Kinds.{Parse, Kind, nothing, one, two, three, four, seven, applied, by_keyword, no_more, keyed, whole, or_word, name, source, key, key_kind, level, hex, hex_in, octets, number_up_to}
 use Rattle.gp_script.specs.declared.script.Action.{Action}
-use Rattle.gp_script.specs.declared.script.Action.TheVariants.{Sink, Device, Pair, Press, Hear}
+use Rattle.gp_script.specs.declared.script.Action.TheVariants.{Sink, Device, Rule, Pair, Press, Inject, Hear, Announce, Table}
+use Rattle.gp_script.specs.declared.script.RuleForm.{RuleForm}
+use Rattle.gp_script.specs.declared.script.RuleForm.TheVariants as form
 use Rattle.gp_script.specs.declared.script.Event.{Event}
 use Rattle.gp_script.specs.declared.script.Event.TheVariants.{Nothing, Line}
 use Rattle.gp_script.specs.declared.script.SinkMode.{SinkMode}
@@ -59,20 +61,37 @@ number64 = number_up_to 18446744073709551615
 
 -- ---- the lines, by their keywords
 
--- the lines about frames, and of a pairing
-abbrev pub doings : List ℕ → Parse Action
-doings = by_keyword (
-    (codes "pair", seven name source key key_kind level (hex w8) number32 Pair)
-    ∷ (codes "press", two name command Press)
+-- what a rule makes of a command
+abbrev pub rule_form : Parse RuleForm
+rule_form = keyed (by_keyword (
+    (codes "table", nothing form.Table)
+    ∷ (codes "copy", two (hex w16) (hex w8) form.Copy)
+    ∷ (codes "fixed", three (hex w16) (hex w8) octets form.Fixed)
+    ∷ []) no_more)
+
+-- the lines about frames
+abbrev pub frames : List ℕ → Parse Action
+frames = by_keyword (
+    (codes "press", two name command Press)
+    ∷ (codes "inject", one octets Inject)
     ∷ (codes "hear", three number64 name (hex w8) Hear)
     ∷ []) no_more
+
+-- the lines about a sink's rules and pairings
+abbrev pub pairings : List ℕ → Parse Action
+pairings = by_keyword (
+    (codes "rule", applied (four name (or_word (codes "any") source) (hex w8) (hex w8) (λ sink src id endpoint form. Rule sink src id endpoint form)) rule_form)
+    ∷ (codes "pair", seven name source key key_kind level (hex w8) number32 Pair)
+    ∷ (codes "announce", two name source Announce)
+    ∷ (codes "table", one name Table)
+    ∷ []) frames
 
 -- the lines that make a node
 abbrev pub nodes : List ℕ → Parse Action
 nodes = by_keyword (
     (codes "sink", seven name (hex w16) (hex w64) sink_mode channel (or_word (codes "-") key) key Sink)
     ∷ (codes "device", seven name source key key_kind level (hex w8) number32 Device)
-    ∷ []) doings
+    ∷ []) pairings
 
 -- an action behind a reading, which leaves room for 100,000,000 more
 abbrev pub timed : Parse Event

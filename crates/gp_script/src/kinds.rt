@@ -7,7 +7,7 @@ ghost use Rattle.gp_script.specs.Kinds.{Reads, next};
 
 use crate::name::Name;
 use crate::words::Words;
-use gp_base::{Key, KeyKind, Level, Octets, Src};
+use gp_base::{Key, KeyKind, Level, Mode, Octets, Src};
 use itoa::Buffer;
 
 // The number that a word is, up to this one.
@@ -137,6 +137,17 @@ pub(crate) fn source(words: &mut Words) -> Option<Src>
     Some(Src(hex32_in(words.next()?)?))
 }
 
+/// A SrcID, or `any` for every one.
+pub(crate) fn any_source(words: &mut Words) -> Option<Option<Src>>
+    ensures { Reads (next (spec.or_word (codes "any") spec.source)) words.old words.new result }
+{
+    let word = words.next()?;
+    if word == b"any".as_slice() {
+        return Some(None);
+    }
+    Some(Some(Src(hex32_in(word)?)))
+}
+
 /// A key.
 pub(crate) fn key(words: &mut Words) -> Option<Key>
     ensures { Reads (next spec.key) words.old words.new result }
@@ -172,6 +183,18 @@ pub(crate) fn level(words: &mut Words) -> Option<Level>
     match words.next()? {
         b"2" => Some(Level::Two),
         b"3" => Some(Level::Three),
+        _ => None,
+    }
+}
+
+/// A mode of tunnelling.
+pub(crate) fn mode(words: &mut Words) -> Option<Mode>
+    ensures { Reads (next spec.mode) words.old words.new result }
+{
+    match words.next()? {
+        b"1" => Some(Mode::Derived),
+        b"2" => Some(Mode::Commissioned),
+        b"3" => Some(Mode::Unicast),
         _ => None,
     }
 }

@@ -23,9 +23,6 @@ pub use name::Name;
 pub use printing::{Line, print_entry};
 pub use reason::LineReason;
 pub use report::{
-    Cause, CommandFault, Dest, Dropped, Entry, FrameFault, Refusal, Report, read_entry,
+    Cause, CommandFault, Dest, Dropped, Entry, FrameFault, Refusal, Report, RuleAnswer, read_entry,
 };
-pub use script::{Action, Event, SinkMode, read_event};
-
-#[cfg(test)]
-mod tests;
+pub use script::{Action, Event, RuleForm, SinkMode, read_event};

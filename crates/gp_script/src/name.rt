@@ -46,6 +46,16 @@ impl Name {
         }
     }
 
+    /// Another name of the same octets. Unlike `clone` it has no failure to answer.
+    pub fn copy(&self) -> Name
+        ensures { result ≡ self.now }
+    {
+        match ArrayVec::try_from(self.letters.as_slice()) {
+            Ok(letters) => Name { letters },
+            Err(_) => unreachable!(),
+        }
+    }
+
     /// The octets, first to last.
     pub fn as_slice(&self) -> &[u8]
         ensures { result.now ≡ self.now }

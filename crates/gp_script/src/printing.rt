@@ -1,6 +1,7 @@
 //! The text of a line of a report.
 
 ghost use Rattle.std.specs.Prelude.{◌≡◌, ◌++◌, [], ◌∷◌, OnOk, IfOk, codes, true, Some};
+ghost use Rattle.gp_script.specs.Kinds as kinds;
 ghost use Rattle.gp_script.specs.Kinds.{texts, or_word_text};
 ghost use Rattle.gp_script.specs.Words.{added};
 ghost use Rattle.gp_script.specs.Report as spec;
@@ -8,7 +9,7 @@ ghost use Rattle.gp_script.specs.Report as spec;
 use crate::report::{Dest, Dropped, Entry, Report};
 use crate::spelled::Spelled;
 use crate::text::{push_number, put_flag, put_hex, put_labelled, put_number, put_octets, put_word};
-use gp_base::{NoMemory, Src};
+use gp_base::{KeyKind, Level, Mode, NoMemory, Src};
 use std::alloc::{AllocError, Global};
 use std::marker::Model;
 
@@ -128,6 +129,36 @@ fn put_report(text: &mut Vec<u8>, report: &Report) -> Result<(), AllocError>
             put_hex(text, &[*command])?;
             put_octets(text, payload.as_slice())
         }
+        Report::Rule { answer } => {
+            put_word(text, "rule")?;
+            put_word(text, answer.text())
+        }
+        Report::Rows { count } => {
+            put_word(text, "rows")?;
+            put_number(text, u64::from(*count))
+        }
+        Report::Row {
+            row,
+            source,
+            kind,
+            level,
+            mode,
+            group,
+            device,
+            live,
+            floor,
+        } => {
+            put_word(text, "row")?;
+            put_number(text, u64::from(*row))?;
+            put_source(text, *source)?;
+            put_word(text, kind_text(*kind))?;
+            put_word(text, level_text(*level))?;
+            put_word(text, mode_text(*mode))?;
+            put_hex(text, &group.to_be_bytes())?;
+            put_hex(text, &[*device])?;
+            put_flag(text, *live)?;
+            put_number(text, u64::from(*floor))
+        }
         Report::Closed => put_word(text, "closed"),
         Report::End => put_word(text, "end"),
     }
@@ -152,6 +183,38 @@ fn put_dropped(text: &mut Vec<u8>, cause: Dropped) -> Result<(), AllocError>
             put_number(text, u64::from(floor))
         }
         Dropped::Plain(cause) => put_word(text, cause.text()),
+    }
+}
+
+// The number of a kind of key, of a level and of a mode, as a word.
+fn kind_text(kind: KeyKind) -> &'static str
+    ensures { result.now ≡ kinds.key_kind_text kind }
+{
+    match kind {
+        KeyKind::Nwk => "1",
+        KeyKind::Group => "2",
+        KeyKind::DerivedGroup => "3",
+        KeyKind::OutOfBox => "4",
+        KeyKind::DerivedIndividual => "7",
+    }
+}
+
+fn level_text(level: Level) -> &'static str
+    ensures { result.now ≡ kinds.level_text level }
+{
+    match level {
+        Level::Two => "2",
+        Level::Three => "3",
+    }
+}
+
+fn mode_text(mode: Mode) -> &'static str
+    ensures { result.now ≡ kinds.mode_text mode }
+{
+    match mode {
+        Mode::Derived => "1",
+        Mode::Commissioned => "2",
+        Mode::Unicast => "3",
     }
 }
 

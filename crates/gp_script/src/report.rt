@@ -8,13 +8,13 @@ ghost use Rattle.gp_script.specs.declared.report.Entry.{Entry as Told};
 
 use crate::capture::NotALine;
 use crate::kinds::{
-    flag, has_small, hex16_in, key_kind, level, name_or_dash, number8, number16, number32,
+    flag, has_small, hex16_in, key_kind, level, mode, name_or_dash, number8, number16, number32,
     number64, upper_octets, upper_source, upper8, upper16,
 };
 use crate::name::Name;
 use crate::spelled::{Spelled, among};
 use crate::words::Words;
-use gp_base::{KeyKind, Level, Octets, Src};
+use gp_base::{KeyKind, Level, Mode, Octets, Src};
 
 /// Where a message goes.
 #[derive(Clone, Copy, PartialEq, Eq, Debug)]
@@ -37,6 +37,15 @@ pub enum Refusal {
     KeyTag,
     CounterEnd,
     TableFull,
+}
+
+/// What a sink answers to a rule.
+#[derive(Clone, Copy, PartialEq, Eq, Debug)]
+pub enum RuleAnswer {
+    Added,
+    Form,
+    Full,
+    Many,
 }
 
 /// Why octets are no frame.
@@ -140,6 +149,26 @@ pub enum Report {
         general: bool,
         command: u8,
         payload: Octets,
+    },
+    /// `rule WORD`
+    Rule {
+        answer: RuleAnswer,
+    },
+    /// `rows N`
+    Rows {
+        count: u16,
+    },
+    /// `row R SRC KIND LEVEL MODE GROUP DEVICE LIVE FLOOR`
+    Row {
+        row: u16,
+        source: Src,
+        kind: KeyKind,
+        level: Level,
+        mode: Mode,
+        group: u16,
+        device: u8,
+        live: bool,
+        floor: u32,
     },
     /// `closed`: a device hears a frame, and asked for none.
     Closed,
@@ -266,6 +295,35 @@ fn sent(keyword: &[u8], words: &mut Words) -> Option<Report>
             payload: upper_octets(words)?,
         });
     }
+    shown(keyword, words)
+}
+
+fn shown(keyword: &[u8], words: &mut Words) -> Option<Report>
+    ensures { Reads (spec.shown keyword.now) words.old words.new result }
+{
+    if keyword == b"rule".as_slice() {
+        return Some(Report::Rule {
+            answer: read_rule_answer(words)?,
+        });
+    }
+    if keyword == b"rows".as_slice() {
+        return Some(Report::Rows {
+            count: number16(words)?,
+        });
+    }
+    if keyword == b"row".as_slice() {
+        return Some(Report::Row {
+            row: number16(words)?,
+            source: upper_source(words)?,
+            kind: key_kind(words)?,
+            level: level(words)?,
+            mode: mode(words)?,
+            group: upper16(words)?,
+            device: upper8(words)?,
+            live: flag(words)?,
+            floor: number32(words)?,
+        });
+    }
     answered(keyword)
 }
 
@@ -329,6 +387,28 @@ impl Spelled for Refusal {
             Refusal::KeyTag => "KeyTag",
             Refusal::CounterEnd => "CounterEnd",
             Refusal::TableFull => "TableFull",
+        }
+    }
+}
+
+const RULE_ANSWERS: [RuleAnswer; 4] = [
+    RuleAnswer::Added,
+    RuleAnswer::Form,
+    RuleAnswer::Full,
+    RuleAnswer::Many,
+];
+
+impl Spelled for RuleAnswer {
+    ghost use Rattle.gp_script.specs.Report.{rule_text};
+
+    ghost spelling = { rule_text };
+
+    fn text(self) -> &'static str {
+        match self {
+            RuleAnswer::Added => "added",
+            RuleAnswer::Form => "form",
+            RuleAnswer::Full => "full",
+            RuleAnswer::Many => "many",
         }
     }
 }
@@ -427,6 +507,12 @@ fn read_refusal(words: &mut Words) -> Option<Refusal>
     ensures { Reads (next spec.refusal) words.old words.new result }
 {
     among(words.next()?, &REFUSALS)
+}
+
+fn read_rule_answer(words: &mut Words) -> Option<RuleAnswer>
+    ensures { Reads (next spec.rule_answer) words.old words.new result }
+{
+    among(words.next()?, &RULE_ANSWERS)
 }
 
 fn frame_fault(words: &mut Words) -> Option<FrameFault>

@@ -7,8 +7,8 @@ ghost use Rattle.gp_script.specs.Script as spec;
 
 use crate::capture::NotALine;
 use crate::kinds::{
-    hex8, hex16, hex16_in, hex64, key, key_kind, key_or_dash, level, name, number_in, number32,
-    number64, octets, source,
+    any_source, hex8, hex16, hex16_in, hex64, key, key_kind, key_or_dash, level, name, number_in,
+    number32, number64, octets, source,
 };
 use crate::name::Name;
 use crate::words::Words;
@@ -23,6 +23,24 @@ pub enum SinkMode {
     Unicast,
     /// To this group.
     Group(u16),
+}
+
+/// What a rule makes of a command.
+#[derive(Clone, PartialEq, Eq, Debug, Drop)]
+pub enum RuleForm {
+    /// `table`: what the command means in the standard table.
+    Table,
+    /// `copy ADDR ID`: this command of this cluster, with the command's payload.
+    Copy {
+        cluster: u16,
+        command: u8,
+    },
+    /// `fixed ADDR ID HEX`: this command of this cluster, with this payload.
+    Fixed {
+        cluster: u16,
+        command: u8,
+        payload: Octets,
+    },
 }
 
 /// What a line of a script does.
@@ -48,6 +66,14 @@ pub enum Action {
         device: u8,
         counter: u32,
     },
+    /// `rule SINK SRC ID EP FORM`: adds a rule, for one device or for `any`.
+    Rule {
+        sink: Name,
+        source: Option<Src>,
+        command: u8,
+        endpoint: u8,
+        form: RuleForm,
+    },
     /// `pair SINK SRC KEY KIND LEVEL DEVICE COUNTER`: pairs a device.
     Pair {
         sink: Name,
@@ -63,11 +89,24 @@ pub enum Action {
         device: Name,
         command: Octets,
     },
+    /// `inject HEX`: sends a frame that no device made.
+    Inject {
+        frame: Octets,
+    },
     /// `hear N NODE LINK`: a frame reaches a node.
     Hear {
         frame: u64,
         node: Name,
         link: u8,
+    },
+    /// `announce SINK SRC`: puts the message of a pairing again.
+    Announce {
+        sink: Name,
+        source: Src,
+    },
+    /// `table SINK`: lists the rows.
+    Table {
+        sink: Name,
     },
 }
 
@@ -130,12 +169,21 @@ fn nodes(keyword: &[u8], words: &mut Words) -> Option<Action>
             counter: number32(words)?,
         });
     }
-    doings(keyword, words)
+    pairings(keyword, words)
 }
 
-fn doings(keyword: &[u8], words: &mut Words) -> Option<Action>
-    ensures { Reads (spec.doings keyword.now) words.old words.new result }
+fn pairings(keyword: &[u8], words: &mut Words) -> Option<Action>
+    ensures { Reads (spec.pairings keyword.now) words.old words.new result }
 {
+    if keyword == b"rule".as_slice() {
+        return Some(Action::Rule {
+            sink: name(words)?,
+            source: any_source(words)?,
+            command: hex8(words)?,
+            endpoint: hex8(words)?,
+            form: rule_form(words)?,
+        });
+    }
     if keyword == b"pair".as_slice() {
         return Some(Action::Pair {
             sink: name(words)?,
@@ -147,10 +195,30 @@ fn doings(keyword: &[u8], words: &mut Words) -> Option<Action>
             counter: number32(words)?,
         });
     }
+    if keyword == b"announce".as_slice() {
+        return Some(Action::Announce {
+            sink: name(words)?,
+            source: source(words)?,
+        });
+    }
+    if keyword == b"table".as_slice() {
+        return Some(Action::Table { sink: name(words)? });
+    }
+    frames(keyword, words)
+}
+
+fn frames(keyword: &[u8], words: &mut Words) -> Option<Action>
+    ensures { Reads (spec.frames keyword.now) words.old words.new result }
+{
     if keyword == b"press".as_slice() {
         return Some(Action::Press {
             device: name(words)?,
             command: command(words)?,
+        });
+    }
+    if keyword == b"inject".as_slice() {
+        return Some(Action::Inject {
+            frame: octets(words)?,
         });
     }
     if keyword == b"hear".as_slice() {
@@ -158,6 +226,30 @@ fn doings(keyword: &[u8], words: &mut Words) -> Option<Action>
             frame: number64(words)?,
             node: name(words)?,
             link: hex8(words)?,
+        });
+    }
+    None
+}
+
+// What a rule makes of a command.
+fn rule_form(words: &mut Words) -> Option<RuleForm>
+    ensures { Reads spec.rule_form words.old words.new result }
+{
+    let keyword = words.next()?;
+    if keyword == b"table".as_slice() {
+        return Some(RuleForm::Table);
+    }
+    if keyword == b"copy".as_slice() {
+        return Some(RuleForm::Copy {
+            cluster: hex16(words)?,
+            command: hex8(words)?,
+        });
+    }
+    if keyword == b"fixed".as_slice() {
+        return Some(RuleForm::Fixed {
+            cluster: hex16(words)?,
+            command: hex8(words)?,
+            payload: octets(words)?,
         });
     }
     None
