@@ -1,0 +1,4 @@
+pub mod Meant
+pub mod Sparse
+pub mod Standard
+pub mod Spelled
