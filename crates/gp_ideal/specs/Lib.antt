@@ -1,0 +1,13 @@
+pub mod Ledger
+pub mod Messages
+pub mod Faults
+pub mod Verdict
+pub mod Heard
+pub mod Paired
+pub mod World
+pub mod Sinks
+pub mod Devices
+pub mod Step
+pub mod Run
+pub mod Fresh
+pub mod Properties

@@ -1,0 +1,5 @@
+pub mod Reported
+pub mod ActsOnce
+pub mod TwoRules
+pub mod Unpairs
+pub mod PairsAgain

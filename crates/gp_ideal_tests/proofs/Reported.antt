@@ -1,0 +1,15 @@
+-- The report of a script, by the definitions alone.
+use Rattle.std.specs.Prelude.{ℕ, suc, List, [], ◌∷◌, ◌++◌, map, Option, Some, None, option_map}
+use Rattle.gp_base.specs.Table.{let_else, let_ok}
+use Rattle.gp_script.specs.Report.{text_of}
+use Rattle.gp_script.specs.Script.{event_of}
+use Rattle.gp_ideal.specs.Step.{step}
+use Rattle.gp_ideal.specs.World.{World}
+
+-- the lines of a script from this world on, and the lines of its report; none where a line is refused
+unfoldable pub reported : World → ℕ → List (List ℕ) → Option (List (List ℕ))
+reported world number [] = Some []
+reported world number (line ∷ lines) =
+    let_else (event_of line) None (λ event.
+    let_ok (step world number event) (λ reason. None) (λ next.
+    option_map (λ others. map text_of next.told ++ others) (reported next.world (suc number) lines)))
