@@ -1,0 +1,9 @@
+pub mod Fitting
+pub mod Current
+pub mod Placed
+pub mod Moments
+pub mod Bodies
+pub mod Coming
+pub mod Sendable
+pub mod Going
+pub mod Keeping

@@ -1,0 +1,7 @@
+pub mod Fits
+pub mod Stored
+pub mod Ruled
+pub mod Verdict
+pub mod Sink
+pub mod Announced
+pub mod Wide

@@ -1,0 +1,4 @@
+use Rattle.gp_sink_tests.proofs.tests.heard.Given as goal
+
+abbrev pub ghosts-hear : goal.ghosts-hear
+ghosts-hear g a = record { name = a.blank.name; parts = a.blank.parts }
