@@ -24,7 +24,7 @@ fail() {
 
 page() {
   case $1 in
-    gp | decode | format | statuses | terms) cat -- "$top/docs/help/$1.txt" ;;
+    gp | decode | format | pcap | statuses | terms) cat -- "$top/docs/help/$1.txt" ;;
     *) fail "there is no page '$1'; 'gp help' names the pages" ;;
   esac
 }
@@ -78,7 +78,7 @@ build() {
   say "the proved program is there ($(($(date +%s) - begun)) s)"
 }
 
-# Says more where the status alone leaves a user in doubt: the status, and where the input came from.
+# Says more where the status alone leaves a user in doubt: the status, where the input came from, and the command.
 explain() {
   case $1 in
     1) say "a line has pairs of hexadecimal digits, or 'zcl ' and such pairs; 'gp help decode' says more" ;;
@@ -86,7 +86,14 @@ explain() {
     3) say "$2 can't be read" ;;
     5) say "the disk is the file gp.disk in $PWD" ;;
     7) say "the disk is the file gp.disk in $PWD; 'gp help format' says more" ;;
-    9) say "in $2: at most 1,000,000 lines of at most 1,024 characters can be listed" ;;
+    9)
+      if [ "$3" = pcap ]; then
+        say "in $2: at most 1,000,000 packets can be listed; 'editcap -c 1000000' cuts a capture file into parts"
+      else
+        say "in $2: at most 1,000,000 lines of at most 1,024 characters can be listed"
+      fi
+      ;;
+    10) say "in $2, the place is that of an octet; 'gp help pcap' has the reasons, and what makes a file that can be listed" ;;
   esac
 }
 
@@ -107,7 +114,9 @@ look() {
     say "read fault"
     return 3
   fi
-  if [ "$(wc -c < "$folder/in")" -gt $octets ] || [ "$(wc -l < "$folder/in")" -gt $lines ]; then
+  if [ "$1" = pcap ]; then
+    [ "$(wc -c < "$folder/in")" -le $octets ] || fail "unproved, at most $octets octets can be listed; 'gp --build' makes the proved program, once"
+  elif [ "$(wc -c < "$folder/in")" -gt $octets ] || [ "$(wc -l < "$folder/in")" -gt $lines ]; then
     fail "unproved, at most $lines lines of together $octets octets can be listed; 'gp --build' makes the proved program, once"
   fi
   say "unproved: this runs the sources as they are, for about half a minute; 'gp --build' makes the proved program, once"
@@ -150,9 +159,14 @@ case ${1-} in
     ;;
 esac
 
-# The last argument of decode is a file, where it is no option and no key.
+# The last argument of decode and of pcap is a file, where it is no option and no key.
 input="standard input"
-if [ "${1-}" = decode ] && [ $# -gt 1 ] && [ $# -le 4 ]; then
+case ${1-} in
+  decode) most=4 ;;
+  pcap) most=3 ;;
+  *) most=0 ;;
+esac
+if [ $# -gt 1 ] && [ $# -le "$most" ]; then
   for last in "$@"; do :; done
   case $last in
     --*) ;;
@@ -203,5 +217,5 @@ if [ "$status" = 0 ]; then
   if [ "${1-}" = format ]; then sync . 2> /dev/null; fi
   exit 0
 fi
-explain "$status" "$input"
+explain "$status" "$input" "${1-}"
 exit "$status"

@@ -93,4 +93,5 @@ def main():
         print(begin + (digits.upper() if chance.random() < 0.5 else digits))
 
 
-main()
+if __name__ == "__main__":
+    main()

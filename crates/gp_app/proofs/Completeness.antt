@@ -7,7 +7,7 @@ use Rattle.gp_disk.specs.declared.device.Disk.{Ghosts}
 use Rattle.gp_store.specs.Formatting.{HasOpenGate}
 use Rattle.gp_lines.specs.declared.status.DiskReason.TheVariants.{DiskShort, NotFormatted, AlreadyFormatted, SlotForm}
 use Rattle.gp_lines.specs.declared.status.Status.{Status}
-use Rattle.gp_lines.specs.declared.status.Status.TheVariants.{Done, BadLine, Usage, ReadFault, WriteFault, DiskFault, NoMemory, DiskRefused, Worn, TooLong}
+use Rattle.gp_lines.specs.declared.status.Status.TheVariants.{Done, BadLine, Usage, ReadFault, WriteFault, DiskFault, NoMemory, DiskRefused, Worn, TooLong, BadPcap}
 use Rattle.gp_app.specs.Formatting.{FormatCompletes, FormatLeaves}
 use Rattle.gp_lines.specs.Leaves.{Counts}
 use Rattle.gp_lines.proofs.Meanings.{rose}
@@ -33,6 +33,7 @@ by_status listing TooLong left left' written written' a b c d input e h k good n
 by_status listing ReadFault left left' written written' a b c d input e h k good no_read no_write = absurd (no_read (rose a b k.0))
 by_status listing WriteFault left left' written written' a b c d input e h k good no_read no_write = absurd (no_write (rose c d k.1))
 by_status listing Usage left left' written written' a b c d input e h k good no_read no_write = absurd h.fits
+by_status listing (BadPcap place reason) left left' written written' a b c d input e h k good no_read no_write = absurd h.fits
 by_status listing DiskFault left left' written written' a b c d input e h k good no_read no_write = absurd h.fits
 by_status listing (DiskRefused reason) left left' written written' a b c d input e h k good no_read no_write = absurd h.fits
 by_status listing (Worn generation) left left' written written' a b c d input e h k good no_read no_write = absurd h.fits
@@ -52,6 +53,7 @@ format_by of (DiskRefused (SlotForm slot)) old new d h room e fresh none = absur
 format_by of DiskFault old new d h room e fresh none = absurd (none (rose (of.faults old) (of.faults new) (h.failed refl)))
 format_by of (BadLine line reason) old new d h room e fresh none = absurd h
 format_by of Usage old new d h room e fresh none = absurd h
+format_by of (BadPcap place reason) old new d h room e fresh none = absurd h
 format_by of ReadFault old new d h room e fresh none = absurd h
 format_by of WriteFault old new d h room e fresh none = absurd h
 format_by of NoMemory old new d h room e fresh none = absurd h

@@ -8,7 +8,7 @@ use Rattle.std.proofs.Common.{Bool, true, ltb, ◌||◌}
 use Rattle.gp_script.specs.declared.reason.LineReason.{LineReason}
 use Rattle.gp_script.specs.declared.reason.LineReason.TheVariants.{Form}
 use Rattle.gp_lines.specs.declared.status.Status.{Status}
-use Rattle.gp_lines.specs.declared.status.Status.TheVariants.{Done, BadLine, Usage, ReadFault, WriteFault, DiskFault, NoMemory, DiskRefused, Worn, TooLong}
+use Rattle.gp_lines.specs.declared.status.Status.TheVariants.{Done, BadLine, Usage, ReadFault, WriteFault, DiskFault, NoMemory, DiskRefused, Worn, TooLong, BadPcap}
 use Rattle.gp_lines.specs.declared.work.Halt.TheVariants as cause
 use Rattle.gp_lines.specs.Lines.{HasNoEnd, AreNarrow, AreWithin, IsBeyond, IsWithin, MayGoOn}
 use Rattle.gp_lines.specs.Leaves as run
@@ -149,6 +149,7 @@ module _ (listing : List ℕ → Option (List ℕ)) where
     outcome_fits WriteFault h = part_of (h.taken ++ h.last) (h.text ++ h.last_text) h.ran_all h.are_within h.front h.have_come
     outcome_fits NoMemory h = part_of h.taken h.text (was_listed h) h.are_within h.front h.have_come
     outcome_fits Usage h = absurd h
+    outcome_fits (BadPcap place reason) h = absurd h
     outcome_fits DiskFault h = absurd h.halted.1
     outcome_fits (DiskRefused reason) h = absurd h.halted.1
     outcome_fits (Worn generation) h = absurd h.halted.1

@@ -6,7 +6,7 @@ use Rattle.std.specs.Str.{bytes_eq}
 use Rattle.hex.specs.Hex.{decode_of}
 use Rattle.gp_base.specs.declared.identity.Key.{Key}
 use Rattle.gp_app.specs.declared.command.Command.{Command}
-use Rattle.gp_app.specs.declared.command.Command.TheVariants.{Decode, Format}
+use Rattle.gp_app.specs.declared.command.Command.TheVariants.{Decode, Format, Pcap}
 use Rattle.gp_listing.specs.declared.form.ListingForm.{ListingForm}
 use Rattle.gp_listing.specs.declared.form.Style.{Style}
 use Rattle.gp_listing.specs.declared.form.Style.TheVariants.{Text, Json}
@@ -33,13 +33,21 @@ abbrev pub format_words : List (List ℕ) → Option Command
 format_words [] = Some Format
 format_words (word ∷ others) = None
 
--- the two, and nothing else
+-- what follows `pcap`: nothing, or a key
+abbrev pub pcap_words : List (List ℕ) → Option Command
+pcap_words [] = Some (Pcap None)
+pcap_words (word ∷ []) = option_map (λ key. Pcap (Some key)) (key_of word)
+pcap_words (word ∷ other ∷ others) = None
+
+-- the three, and nothing else
 abbrev pub command_of : List (List ℕ) → Option Command
 command_of [] = None
 command_of (word ∷ others) =
-    if bytes_eq word (codes "decode") then listing_words others else if bytes_eq word (codes "format") then format_words others else None
+    if bytes_eq word (codes "decode")
+    then listing_words others
+    else if bytes_eq word (codes "format") then format_words others else if bytes_eq word (codes "pcap") then pcap_words others else None
 
--- a fact of the form where the arguments ask for the listing, and one where they ask for the formatting
+-- a fact of the form where the arguments ask for the listing of a capture, and one where they ask for the formatting
 abbrev pub OnDecode : Option Command → (ListingForm → Type 0) → Type 0
 OnDecode (Some (Decode form)) Fact = Fact form
 OnDecode _ Fact = Unit {0}
@@ -47,3 +55,8 @@ OnDecode _ Fact = Unit {0}
 abbrev pub OnFormat : Option Command → Type 0 → Type 0
 OnFormat (Some Format) fact = fact
 OnFormat _ fact = Unit {0}
+
+-- and one of the key where they ask for the listing of a capture file
+abbrev pub OnPcap : Option Command → (Option Key → Type 0) → Type 0
+OnPcap (Some (Pcap key)) Fact = Fact key
+OnPcap _ Fact = Unit {0}

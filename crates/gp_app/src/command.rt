@@ -15,6 +15,8 @@ pub enum Command {
     Decode(ListingForm),
     /// An empty store on the disk.
     Format,
+    /// The listing of a capture file, under a key that may be absent.
+    Pcap(Option<Key>),
 }
 
 /// What these arguments ask for, and `None` where they are no form of the command line.
@@ -29,6 +31,9 @@ pub fn read_command(words: &[Word]) -> Option<Command>
     }
     if word.as_slice() == b"format".as_slice() {
         return format_words(others);
+    }
+    if word.as_slice() == b"pcap".as_slice() {
+        return pcap_words(others);
     }
     None
 }
@@ -63,6 +68,20 @@ fn format_words(words: &[Word]) -> Option<Command>
 {
     match words {
         [] => Some(Command::Format),
+        _ => None,
+    }
+}
+
+// What follows `pcap`.
+fn pcap_words(words: &[Word]) -> Option<Command>
+    ensures { result ≡ spec.pcap_words words.now }
+{
+    match words {
+        [] => Some(Command::Pcap(None)),
+        [word] => {
+            let key = read_key(word.as_slice())?;
+            Some(Command::Pcap(Some(key)))
+        }
         _ => None,
     }
 }

@@ -23,6 +23,8 @@ impl Work for Decoding {
 
     ghost goes = { λ old number line text new. Goes old line text new };
 
+    ghost awaits = { λ work number. Unit {0} };
+
     ghost stops = { λ old number line halt new. Stops old line halt new };
 
     fn take(&mut self, _number: u64, line: &[u8], text: &mut Vec<u8>) -> Result<(), Halt> {

@@ -1,11 +1,12 @@
 //! The top call.
 
 ghost use Rattle.std.specs.Prelude.{◌≡◌, ℕ, [], IfSome, IfNone, None, ◌↔◌};
-ghost use Rattle.gp_app.specs.Command.{command_of, OnDecode, OnFormat};
+ghost use Rattle.gp_app.specs.Command.{command_of, OnDecode, OnFormat, OnPcap};
 ghost use Rattle.gp_app.specs.Formatting.{FormatCompletes, FormatLeaves};
 ghost use Rattle.gp_app.specs.Leaves.{Completes, Leaves};
 ghost use Rattle.gp_lines.specs.Leaves.{Counts};
 ghost use Rattle.gp_listing.specs.Form.{listing_of};
+ghost use Rattle.gp_packets.specs.Leaves as packets;
 
 use crate::command::{Command, read_command};
 use crate::decoding::Decoding;
@@ -13,6 +14,7 @@ use gp_base::{Out, Source, Word};
 use gp_disk::Disk;
 use gp_lines::{DiskReason, Status, run_lines};
 use gp_listing::ListingForm;
+use gp_packets::list_packets;
 use gp_store::{StoreFault, format};
 use std::alloc::Global;
 
@@ -24,7 +26,8 @@ const HELD: usize = 65_536;
 ///
 /// `decode` lists the lines of a capture, a line each, and `decode --json` lists them as JSON. A key behind them,
 /// 32 hexadecimal digits, opens secured frames: the listing says whether the MIC of each is right under it, and where it
-/// is shows the command in clear. `format` writes an empty store on the disk.
+/// is shows the command in clear. `format` writes an empty store on the disk. `pcap` lists the packets of a capture file, a line
+/// each, with the same key behind it or none.
 pub fn run<S: Source, O: Out, D: Disk>(
     alloc: Global,
     words: &[Word],
@@ -43,11 +46,18 @@ pub fn run<S: Source, O: Out, D: Disk>(
     ensures formats { OnFormat (command_of words.now) (FormatLeaves D.Disk result.0 disk result.1) }
     ensures format_completes { OnFormat (command_of words.now) (FormatCompletes result.0 (D.tally disk).size (D.image disk) (D.faults disk) (D.faults result.1)) }
     ensures reads_and_writes_nothing { OnFormat (command_of words.now) ((source.new ≡ source.old) × (out.new ≡ out.old)) }
+
+    ensures packets { OnPcap (command_of words.now) (λ key. packets.Leaves key result.0
+        (S.left source.old) (S.left source.new) (O.written out.old) (O.written out.new)) }
+    ensures packets_count { OnPcap (command_of words.now) (λ key. Counts result.0 (S.faults source.old) (S.faults source.new) (O.faults out.old) (O.faults out.new)) }
+    ensures packets_complete { OnPcap (command_of words.now) (λ key. packets.Completes result.0 (S.left source.old) (S.faults source.old) (S.faults source.new) (O.faults out.old) (O.faults out.new)) }
+    ensures packets_keep_the_disk { OnPcap (command_of words.now) (λ key. result.1 ≡ disk) }
 {
     match read_command(words) {
         None => (Status::Usage, disk),
         Some(Command::Decode(form)) => (list_lines(alloc, form, source, out), disk),
         Some(Command::Format) => format_disk(disk),
+        Some(Command::Pcap(key)) => (list_packets(alloc, key, source, out), disk),
     }
 }
 

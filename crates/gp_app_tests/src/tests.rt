@@ -8,6 +8,7 @@ use std::test::Fail;
 mod faults;
 mod formatting;
 mod frames;
+mod packets;
 mod rows;
 
 // A run over an input in pieces of so many octets, with calls that are to fail.

@@ -1,11 +1,12 @@
 //! What the program says of its status.
 
 use gp_app::{DiskReason, Status};
+use gp_pcap::PcapReason;
 use gp_script::LineReason;
 use std::fmt;
 use std::fmt::{Display, Formatter};
 
-/// The exit status of the process: 0 to 9 in the order of the variants.
+/// The exit status of the process: 0 to 10 in the order of the variants.
 pub fn exit_number(status: Status) -> u8 {
     match status {
         Status::Done => 0,
@@ -18,6 +19,7 @@ pub fn exit_number(status: Status) -> u8 {
         Status::DiskRefused(_) => 7,
         Status::Worn { .. } => 8,
         Status::TooLong => 9,
+        Status::BadPcap { .. } => 10,
     }
 }
 
@@ -52,6 +54,10 @@ impl Display for Text {
             }
             Status::Worn { generation } => writeln!(f, "gp: worn at {generation}"),
             Status::TooLong => writeln!(f, "gp: too long"),
+            Status::BadPcap { place, reason } => {
+                let name = pcap_reason_name(reason);
+                writeln!(f, "gp: bad pcap: {name} {place}")
+            }
         }
     }
 }
@@ -63,6 +69,16 @@ fn reason_name(reason: LineReason) -> &'static str {
         LineReason::Many => "Many",
         LineReason::Absent => "Absent",
         LineReason::Missing => "Missing",
+    }
+}
+
+fn pcap_reason_name(reason: PcapReason) -> &'static str {
+    match reason {
+        PcapReason::Magic => "Magic",
+        PcapReason::Version => "Version",
+        PcapReason::Link => "Link",
+        PcapReason::Length => "Length",
+        PcapReason::Cut => "Cut",
     }
 }
 

@@ -58,6 +58,7 @@ module _ {S : Type 0} (ran ran' : List (List ℕ) → List ℕ → S → Type 0)
   Fits-map (ending.DiskRefused reason) left read told h = Halted-map (DiskRefused reason) left read told h
   Fits-map (ending.Worn generation) left read told h = Halted-map (Worn generation) left read told h
   Fits-map ending.Usage left read told h = absurd h
+  Fits-map (ending.BadPcap place reason) left read told h = absurd h
 
   pub Leaves-map : (status : Status) (left left' written written' : Option (List ℕ)) → Leaves ran halts held new status left left' written written' → Leaves ran' halts' held new status left left' written written'
   Leaves-map status left left' written written' h = record { read = h.read; written = h.written; consumed = h.consumed; appended = h.appended; fits = Fits-map status left' h.read h.written h.fits }
@@ -90,6 +91,7 @@ module _ {S : Type 0} (ran : List (List ℕ) → List ℕ → S → Type 0) (hal
   completes ending.ReadFault left left' written written' a b c d input e h k narrow goes no_read no_write = absurd (no_read (rose a b k.0))
   completes ending.WriteFault left left' written written' a b c d input e h k narrow goes no_read no_write = absurd (no_write (rose c d k.1))
   completes ending.Usage left left' written written' a b c d input e h k narrow goes no_read no_write = absurd h.fits
+  completes (ending.BadPcap place reason) left left' written written' a b c d input e h k narrow goes no_read no_write = absurd h.fits
   completes ending.DiskFault left left' written written' a b c d input e h k narrow goes no_read no_write =
       absurd (goes h.fits.taken h.written h.fits.line DiskFault (settled left' input h.read (Next h.fits.taken h.fits.line) (rw e at h.consumed) h.fits.next) h.fits.halted)
   completes (ending.DiskRefused reason) left left' written written' a b c d input e h k narrow goes no_read no_write =

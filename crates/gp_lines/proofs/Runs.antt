@@ -16,36 +16,12 @@ use Rattle.gp_lines.specs.Work.{Grows, Chain, Halts, UnlessNoMemory}
 use Rattle.gp_lines.specs.Progress.{Place, place, Advances, Cause, Stops, LineStops, TakesLast}
 use Rattle.gp_lines.specs.Leaves.{IsFront, AreLines, Settles, Next, NextBeyond, HaveCome, Fits, Leaves}
 use Rattle.gp_lines.specs.LastWords.{Says, SaysOr}
-use Rattle.gp_lines.proofs.Streams.{Appends-then, Appends-nothing}
+use Rattle.gp_lines.proofs.Streams.{Appends-then, Appends-nothing, Consumes-nothing, Consumes-then, Consumes-kept, front_is}
 use Rattle.gp_lines.proofs.LineLemmas.{HasNoEnd-nil, lines-last}
 use Rattle.gp_lines.proofs.Cutting.{Cuts-going, Cuts-complete, MakesLine-lines, MakesLine-complete}
 use Rattle.gp_lines.proofs.CompleteLines.{complete-none}
 use Rattle.gp_lines.proofs.Chains.{Chain-nothing, Chain-then}
 use Rattle.gp_lines.proofs.Advancing.{Advances-start, Advances-then, flush_advances, is_narrow, narrow_nil}
-
-Consumes-nothing : (known : Option (List ℕ)) → Consumes known known []
-Consumes-nothing None = tt
-Consumes-nothing (Some xs) = refl
-
-Consumes-then : (a b c : Option (List ℕ)) (xs ys : List ℕ) → Consumes a b xs → Consumes b c ys → Consumes a c (xs ++ ys)
-Consumes-then None b c xs ys h k = tt
-Consumes-then (Some xa) None c xs ys h k = absurd h
-Consumes-then (Some xa) (Some xb) None xs ys h k = absurd k
-Consumes-then (Some xa) (Some xb) (Some xc) xs ys h k = h ∙ ap (λ (zs : List ℕ). xs ++ zs) k ∙ sym (append_assoc xs ys xc)
-
-Consumes-kept : (a b c : Option (List ℕ)) (xs : List ℕ) → Consumes a b xs → Keeps b c → Consumes a c xs
-Consumes-kept None b c xs h k = tt
-Consumes-kept (Some xa) None c xs h k = absurd h
-Consumes-kept (Some xa) (Some xb) None xs h k = absurd k
-Consumes-kept (Some xa) (Some xb) (Some xc) xs h k = h ∙ ap (λ (zs : List ℕ). xs ++ zs) (sym k)
-
--- a front of what waits and of what comes behind it
-front_is : (text told waiting late : List ℕ) (count : ℕ) → text ≡ told ++ waiting → IsFront (told ++ take count (waiting ++ late)) (text ++ late)
-front_is text told waiting late count is = (
-  drop count (waiting ++ late),
-  ap (λ (xs : List ℕ). xs ++ late) is ∙ append_assoc told waiting late ∙ ap (λ (xs : List ℕ). told ++ xs) (sym (take-append-drop count (waiting ++ late)))
-      ∙ sym (append_assoc told (take count (waiting ++ late)) (drop count (waiting ++ late))),
-)
 
 -- octets without LF are one line at most
 one_line : (begun : List ℕ) → HasNoEnd begun → length (lines begun) ≤ 1

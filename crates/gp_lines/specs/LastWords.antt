@@ -1,4 +1,4 @@
--- The last text of a run, and its status. No clause of a public call cites this file: nothing in it has to be believed.
+-- The last text of a run, and its status.
 use Rattle.std.specs.Prelude.{◌≡◌, ℕ, ◌<◌, ◌⊎◌, List, length, take, Option}
 use Rattle.std.specs.Io.KnownBytes.{Appends}
 use Rattle.gp_base.specs.Outside.{one_more}

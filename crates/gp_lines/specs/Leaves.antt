@@ -109,6 +109,7 @@ module _ {S : Type 0} (ran : List (List ℕ) → List ℕ → S → Type 0) (hal
   Fits (ending.DiskRefused reason) left read written = Halted (DiskRefused reason) left read written
   Fits (ending.Worn generation) left read written = Halted (Worn generation) left read written
   Fits ending.Usage left read written = ⊥
+  Fits (ending.BadPcap place reason) left read written = ⊥
 
   -- Some octets were read and some written, and they fit the status.
   pub record Leaves (status : Status) (left_before left_after written_before written_after : Option (List ℕ)) : Type 0 where

@@ -29,6 +29,8 @@ pub struct Progress {
 
 // Lets the work take a line, the line end aside, behind so many lines before it.
 fn take_line<W: Work>(work: &mut W, text: &mut Vec<u8>, lines: u64, line: &[u8]) -> Result<(), Stop>
+    requires awaits { W.awaits work.old (lines + 1) }
+    ensures next { OnOk result (W.awaits work.new (lines + 1 + 1)) }
     ensures ok { OnOk result (Grows text.old.items text.new.items (λ told. W.goes work.old (lines + 1) line.now told work.new)) }
     ensures within { OnOk result (IsWithin lines line.now) }
     ensures err { IfErr result (λ stop. LineStops W.stops stop lines line.now text.old.items text.new.items work.old work.new) }
@@ -69,8 +71,10 @@ impl Progress {
 
     // Ends the line that has begun with these octets, which stand before an LF.
     fn end_line<W: Work>(&mut self, work: &mut W, front: &[u8]) -> Result<(), Stop>
+        requires awaits { W.awaits work.old (self.old.lines + 1) }
         ensures ok { OnOk result (Grows self.old.text.items self.new.text.items (λ told. W.goes work.old (self.old.lines + 1) (strip_carriage_return (self.old.begun.items ++ front.now)) told work.new)) }
         ensures within { OnOk result (IsWithin self.old.lines (strip_carriage_return (self.old.begun.items ++ front.now))) }
+        ensures next { OnOk result (W.awaits work.new (self.new.lines + 1)) }
         ensures one { OnOk result (self.new.lines ≡ self.old.lines + 1) }
         ensures begun { OnOk result (self.new.begun.items ≡ []) }
         ensures err { IfErr result (λ stop. LineStops W.stops stop self.old.lines (strip_carriage_return (self.old.begun.items ++ front.now))
@@ -85,9 +89,11 @@ impl Progress {
 
     // The same where no line has begun: the octets are the line.
     fn end_fresh<W: Work>(&mut self, work: &mut W, front: &[u8]) -> Result<(), Stop>
-        requires { self.old.begun.items ≡ [] }
+        requires awaits { W.awaits work.old (self.old.lines + 1) }
+        requires begun { self.old.begun.items ≡ [] }
         ensures ok { OnOk result (Grows self.old.text.items self.new.text.items (λ told. W.goes work.old (self.old.lines + 1) (strip_carriage_return front.now) told work.new)) }
         ensures within { OnOk result (IsWithin self.old.lines (strip_carriage_return front.now)) }
+        ensures next { OnOk result (W.awaits work.new (self.new.lines + 1)) }
         ensures one { OnOk result (self.new.lines ≡ self.old.lines + 1) }
         ensures begun { OnOk result (self.new.begun.items ≡ []) }
         ensures err { IfErr result (λ stop. LineStops W.stops stop self.old.lines (strip_carriage_return front.now)
@@ -104,8 +110,10 @@ impl Progress {
 
     // The same where a line has begun.
     fn end_begun<W: Work>(&mut self, work: &mut W, front: &[u8]) -> Result<(), Stop>
+        requires awaits { W.awaits work.old (self.old.lines + 1) }
         ensures ok { OnOk result (Grows self.old.text.items self.new.text.items (λ told. W.goes work.old (self.old.lines + 1) (strip_carriage_return (self.old.begun.items ++ front.now)) told work.new)) }
         ensures within { OnOk result (IsWithin self.old.lines (strip_carriage_return (self.old.begun.items ++ front.now))) }
+        ensures next { OnOk result (W.awaits work.new (self.new.lines + 1)) }
         ensures one { OnOk result (self.new.lines ≡ self.old.lines + 1) }
         ensures begun { OnOk result (self.new.begun.items ≡ []) }
         ensures err { IfErr result (λ stop. LineStops W.stops stop self.old.lines (strip_carriage_return (self.old.begun.items ++ front.now))
@@ -160,10 +168,12 @@ impl Progress {
         held: usize,
         front: &[u8],
     ) -> Result<(), Stop>
+        requires awaits { W.awaits work.old (self.old.lines + 1) }
         requires begun { HasNoEnd self.old.begun.items }
         requires front { HasNoEnd front.now }
         ensures ok { OnOk result (Advances W.goes (place self.old.lines self.old.begun.items self.old.text.items (O.written out.old) work.old) (front.now ++ 10 ∷ [])
             (place self.new.lines self.new.begun.items self.new.text.items (O.written out.new) work.new)) }
+        ensures next { OnOk result (W.awaits work.new (self.new.lines + 1)) }
         ensures one { OnOk result (self.new.lines ≡ self.old.lines + 1) }
         ensures few { OnOk result (self.new.lines ≤ 1000000) }
         ensures begun { OnOk result (self.new.begun.items ≡ []) }
@@ -195,12 +205,14 @@ impl Progress {
         held: usize,
         piece: &[u8],
     ) -> Result<(), Stop>
+        requires awaits { W.awaits work.old (self.old.lines + 1) }
         requires begun { HasNoEnd self.old.begun.items }
         requires few { self.old.lines ≤ 1000000 }
         requires goes_on { MayGoOn self.old.lines self.old.begun.items }
         requires little { length self.old.text.items ≤ held }
         ensures ok { OnOk result (Advances W.goes (place self.old.lines self.old.begun.items self.old.text.items (O.written out.old) work.old) piece.now
             (place self.new.lines self.new.begun.items self.new.text.items (O.written out.new) work.new)) }
+        ensures next { OnOk result (W.awaits work.new (self.new.lines + 1)) }
         ensures begun { OnOk result (HasNoEnd self.new.begun.items) }
         ensures few { OnOk result (self.new.lines ≤ 1000000) }
         ensures goes_on { OnOk result (MayGoOn self.new.lines self.new.begun.items) }
@@ -227,7 +239,8 @@ impl Progress {
 
     /// Ends the input: a last line without LF counts where it isn't empty.
     pub fn finish<W: Work>(&mut self, work: &mut W) -> Result<(), Stop>
-        requires { HasNoEnd self.old.begun.items }
+        requires awaits { W.awaits work.old (self.old.lines + 1) }
+        requires begun { HasNoEnd self.old.begun.items }
         ensures ok { OnOk result (Grows self.old.text.items self.new.text.items (TakesLast W.goes self.old.lines (lines self.old.begun.items) work.old work.new)) }
         ensures err { IfErr result (λ stop. (lines self.old.begun.items ≡ self.old.begun.items ∷ []) ×
             LineStops W.stops stop self.old.lines self.old.begun.items self.old.text.items self.new.text.items work.old work.new) }

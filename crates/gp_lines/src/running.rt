@@ -3,13 +3,13 @@
 ghost use Rattle.std.specs.Prelude.{◌≡◌, ℕ, []};
 ghost use Rattle.gp_lines.specs.Leaves.{Leaves, Counts};
 ghost use Rattle.gp_lines.specs.Work.{Chain, Halts};
-ghost use Rattle.gp_lines.specs.LastWords.{Says, SaysOr};
+ghost use Rattle.gp_lines.specs.LastWords.{Says};
 
 use crate::progress::Progress;
 use crate::status::Status;
 use crate::stop::Stop;
 use crate::work::{Halt, Work};
-use crate::writing::write_all;
+use crate::writing::last_words;
 use gp_base::{Out, Source};
 use std::alloc::Global;
 
@@ -32,6 +32,7 @@ pub fn run_lines<W: Work, S: Source, O: Out>(
     source: &mut S,
     out: &mut O,
 ) -> Status
+    requires { W.awaits work.old 1 }
     ensures leaves { Leaves (Chain W.goes work.old 1) (Halts W.goes W.stops work.old) held work.new result (S.left source.old) (S.left source.new) (O.written out.old) (O.written out.new) }
     ensures counts { Counts result (S.faults source.old) (S.faults source.new) (O.faults out.old) (O.faults out.new) }
 {
@@ -81,15 +82,5 @@ fn stopped<O: Out>(out: &mut O, text: &[u8], stop: Stop) -> Status
         Stop::Halted(_, Halt::Worn { generation }) => {
             last_words(out, text, Status::Worn { generation })
         }
-    }
-}
-
-// Writes the last text and answers the status.
-fn last_words<O: Out>(out: &mut O, text: &[u8], status: Status) -> Status
-    ensures { SaysOr status result (O.written out.old) (O.written out.new) text.now (O.faults out.old) (O.faults out.new) }
-{
-    match write_all(out, text) {
-        Ok(()) => status,
-        Err(_) => Status::WriteFault,
     }
 }

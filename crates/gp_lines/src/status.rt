@@ -1,5 +1,6 @@
 //! How a run ends.
 
+use gp_pcap::PcapReason;
 use gp_script::LineReason;
 
 /// Why a disk is refused.
@@ -18,7 +19,7 @@ pub enum DiskReason {
     },
 }
 
-/// How a run ends. The exit statuses of the program are 0 to 9 in this order.
+/// How a run ends. The exit statuses of the program are 0 to 10 in this order.
 #[derive(Clone, Copy, PartialEq, Eq, Debug)]
 pub enum Status {
     /// All is done: a listing has read the input to its end and written all of its output, a formatting has written the
@@ -48,6 +49,13 @@ pub enum Status {
         /// The last generation.
         generation: u64,
     },
-    /// Line 1,000,001 begins, or a line has more than 1,024 octets.
+    /// Line 1,000,001 or packet 1,000,001 begins, or a line has more than 1,024 octets.
     TooLong,
+    /// A capture file is refused; the packets before it are listed.
+    BadPcap {
+        /// The place, in octets from its beginning.
+        place: u64,
+        /// Why it is refused.
+        reason: PcapReason,
+    },
 }

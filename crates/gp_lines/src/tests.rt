@@ -17,6 +17,8 @@ impl Work for Sum {
     ghost goes = { λ old number line text new.
         (new.total ≡ (old.total + length line) % (2 ^ 64)) × (text ≡ (48 + new.total % 10) ∷ []) };
 
+    ghost awaits = { λ work number. Unit {0} };
+
     ghost stops = { λ old number line cause new. (cause ≡ halt.DiskFault → line ≡ 33 ∷ []) };
 
     fn take(&mut self, _number: u64, line: &[u8], text: &mut Vec<u8>) -> Result<(), Halt> {

@@ -1,9 +1,11 @@
-//! Writing all of a text.
+//! Writing all of a text, and the status behind it.
 
 ghost use Rattle.std.specs.Prelude.{◌≡◌, ℕ, ◌<◌, ◌≤◌, take, length, OnOk, OnErr};
 ghost use Rattle.std.specs.Io.KnownBytes.{Appends};
 ghost use Rattle.gp_base.specs.Outside.{one_more};
+ghost use Rattle.gp_lines.specs.LastWords.{SaysOr};
 
+use crate::status::Status;
 use gp_base::{Failed, Out};
 
 /// Writes all the octets, in as many calls as the output needs. A failure leaves a front of them written.
@@ -24,4 +26,14 @@ pub fn write_all<O: Out>(out: &mut O, octets: &[u8]) -> Result<(), Failed>
         rest = after;
     }
     Ok(())
+}
+
+/// Writes the last text of a run and answers its status, or `WriteFault` where a front of it is written.
+pub fn last_words<O: Out>(out: &mut O, text: &[u8], status: Status) -> Status
+    ensures { SaysOr status result (O.written out.old) (O.written out.new) text.now (O.faults out.old) (O.faults out.new) }
+{
+    match write_all(out, text) {
+        Ok(()) => status,
+        Err(_) => Status::WriteFault,
+    }
 }

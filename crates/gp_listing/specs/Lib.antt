@@ -3,4 +3,5 @@ pub mod Json
 pub mod Listing
 pub mod Messages
 pub mod Opening
+pub mod Packets
 pub mod Texts

@@ -53,8 +53,9 @@ fn push_capture(text: &mut Vec<u8>, key: Option<Key>, capture: &Capture) -> Resu
     }
 }
 
+/// Adds the listing of octets of the air.
 #[tactic(auto, unfolding(crate::specs::Listing::air_text))]
-fn push_air(text: &mut Vec<u8>, key: Option<Key>, octets: &[u8]) -> Result<(), AllocError>
+pub fn push_air(text: &mut Vec<u8>, key: Option<Key>, octets: &[u8]) -> Result<(), AllocError>
     ensures { OnOk result (text.new.items ≡ text.old.items ++ air_text key (reading octets.now)) }
 {
     match decode(octets) {

@@ -39,6 +39,14 @@ const DISK_REASONS: [(DiskReason, &str); 4] = [
     ),
 ];
 
+const PCAP_REASONS: [(PcapReason, &str); 5] = [
+    (PcapReason::Magic, "gp: bad pcap: Magic 70000\n"),
+    (PcapReason::Version, "gp: bad pcap: Version 70000\n"),
+    (PcapReason::Link, "gp: bad pcap: Link 70000\n"),
+    (PcapReason::Length, "gp: bad pcap: Length 70000\n"),
+    (PcapReason::Cut, "gp: bad pcap: Cut 70000\n"),
+];
+
 /// A standard error that keeps what is said on it.
 #[derive(Drop)]
 struct Said {
@@ -77,6 +85,13 @@ fn each_status_has_its_number_and_one_line(rt: HostRuntime) {
     }
     for (reason, text) in LINE_REASONS {
         check(&rt, alloc, Status::BadLine { line: 7, reason }, 1, text);
+    }
+    for (reason, text) in PCAP_REASONS {
+        let status = Status::BadPcap {
+            place: 70_000,
+            reason,
+        };
+        check(&rt, alloc, status, 10, text);
     }
     for (reason, text) in DISK_REASONS {
         check(&rt, alloc, Status::DiskRefused(reason), 7, text);

@@ -11,7 +11,7 @@ returns-then-is_empty-clause-ok g c = last_none g.W.Work.goes c.args.self.now.li
 
 pub returns-in-Ok-clause-ok : goal.returns-in-Ok-clause-ok
 returns-in-Ok-clause-ok g c =
-    last_one g.W.Work.goes c.args.self.now.lines c.args.self.now.begun.items _ _ _ _ c.requires (grind (arith, common_steps)) (rw c.as_slice.ensures.value at c.in-Ok.ensures.within) (rw c.as_slice.ensures.value at c.in-Ok.ensures.ok)
+    last_one g.W.Work.goes c.args.self.now.lines c.args.self.now.begun.items _ _ _ _ c.requires.begun (grind (arith, common_steps)) (rw c.as_slice.ensures.value at c.in-Ok.ensures.within) (rw c.as_slice.ensures.value at c.in-Ok.ensures.ok)
 
 pub returns-in-Err-clause-err : goal.returns-in-Err-clause-err
-returns-in-Err-clause-err g c = (lines-last c.args.self.now.begun.items c.requires (grind (arith, common_steps)), rw c.as_slice.ensures.value at c.in-Err.ensures.err)
+returns-in-Err-clause-err g c = (lines-last c.args.self.now.begun.items c.requires.begun (grind (arith, common_steps)), rw c.as_slice.ensures.value at c.in-Err.ensures.err)

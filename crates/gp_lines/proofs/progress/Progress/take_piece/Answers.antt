@@ -7,6 +7,7 @@ use Rattle.gp_lines.proofs.progress.Progress.take_piece.Goals as goal
 pub lines-init : goal.lines-init
 lines-init g c = record {
   front = Front-start g.W.Work.goes g.W.Work.stops c.args.held _ c.args.piece.now c.requires.begun;
+  awaits = c.requires.awaits;
   begun = c.requires.begun;
   few = c.requires.few;
   goes_on = c.requires.goes_on;
@@ -30,6 +31,7 @@ lines-preserved g c =
     let fresh : length c.pass_line.new.self.begun.items ≡ 0 = ap length c.in-Ok.ensures.begun in
     record {
       front = Front-line g.W.Work.goes g.W.Work.stops c.args.held _ c.args.piece.now c.lines.rest.now c.in-Some.front.now c.in-Some.back.now _ _ c.lines.invariant.front c.in-Some.ensures.parts c.in-Ok.ensures.ok;
+      awaits = c.in-Ok.ensures.next;
       begun = rw c.in-Ok.ensures.begun HasNoEnd-nil;
       few = few;
       goes_on = inl c.in-Ok.ensures.begun;

@@ -1,4 +1,4 @@
-use Rattle.std.proofs.Common.{◌≡◌, ◌<◌, ◌≤◌, length}
+use Rattle.std.proofs.Common.{◌≡◌, ◌+◌, ◌<◌, ◌≤◌, length}
 use Rattle.gp_lines.specs.Lines.{HasNoEnd, MayGoOn}
 use Rattle.gp_lines.specs.Cutting.{room}
 use Rattle.gp_lines.specs.Progress.{place}
@@ -9,6 +9,7 @@ abbrev pub invariant-lines : goal.invariant-lines
 invariant-lines g l = record {
   front : Front g.W.Work.goes g.W.Work.stops l.held (place l.fn.self.lines l.fn.self.begun.items l.fn.self.text.items (g.O.Out.written l.fn.out) l.fn.work) l.piece l.rest
       (place l.self.lines l.self.begun.items l.self.text.items (g.O.Out.written l.out) l.work);
+  awaits : g.W.Work.awaits l.work (l.self.lines + 1);
   begun : HasNoEnd l.self.begun.items;
   few : l.self.lines ≤ 1000000;
   goes_on : MayGoOn l.self.lines l.self.begun.items;
