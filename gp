@@ -88,12 +88,12 @@ explain() {
     7) say "the disk is the file gp.disk in $PWD; 'gp help format' says more" ;;
     9)
       if [ "$3" = pcap ]; then
-        say "in $2: at most 1,000,000 packets can be listed; 'editcap -c 1000000' cuts a capture file into parts"
+        say "in $2: at most 1,000,000 packets can be listed; 'editcap -F pcap -c 1000000 IN OUT' cuts it into parts"
       else
         say "in $2: at most 1,000,000 lines of at most 1,024 characters can be listed"
       fi
       ;;
-    10) say "in $2, the place is that of an octet; 'gp help pcap' has the reasons, and what makes a file that can be listed" ;;
+    10) say "in $2; 'gp help pcap' has the reasons, and what makes a file that can be listed" ;;
   esac
 }
 
@@ -106,7 +106,11 @@ look() {
       return 2
       ;;
   esac
-  [ "${1-}" != format ] || fail "format wants the proved program; 'gp --build' makes it, once"
+  if [ $# = 0 ]; then
+    say usage
+    return 2
+  fi
+  [ "$1" != format ] || fail "format wants the proved program; 'gp --build' makes it, once"
   folder=$(mktemp -d 2> /dev/null) || fail "there is no folder for temporary files at ${TMPDIR:-/tmp}"
   trap 'rm -rf "$folder"' EXIT
   trap 'exit 130' INT TERM
@@ -114,7 +118,7 @@ look() {
     say "read fault"
     return 3
   fi
-  if [ "$1" = pcap ]; then
+  if [ "${1-}" = pcap ]; then
     [ "$(wc -c < "$folder/in")" -le $octets ] || fail "unproved, at most $octets octets can be listed; 'gp --build' makes the proved program, once"
   elif [ "$(wc -c < "$folder/in")" -gt $octets ] || [ "$(wc -l < "$folder/in")" -gt $lines ]; then
     fail "unproved, at most $lines lines of together $octets octets can be listed; 'gp --build' makes the proved program, once"
