@@ -1,5 +1,6 @@
 -- What a line of a script asks for has octets where octets belong.
-use Rattle.std.proofs.Common.{◌≡◌, ℕ, Bool, true, false, ◌&&◌, cond, if◌then◌else◌, List, [], ◌∷◌, length, Option, Some, None, option_map, Result, Ok, Err, refl, sym, ap, ◌∙◌, subst, nat_le}
+use Rattle.std.proofs.Common.{◌≡◌, ℕ, Bool, true, false, ◌&&◌, cond, if◌then◌else◌, List, [], ◌∷◌, length, Option, Some, None, option_map, Result, Ok, Err, refl, sym, ap, ◌∙◌, subst, nat_le, ◌<◌, ◌≤◌, arith}
+use Rattle.std.proofs.lemmas.Bool.{leb-true, and_parts}
 use Rattle.std.specs.Prelude.{codes}
 use Rattle.std.specs.Int.{w8, w16, w64}
 use Rattle.std.specs.Result.{result_ok}
@@ -20,10 +21,16 @@ use Rattle.gp_script.specs.Script.{event_of, timed, nodes, pairings, frames, rul
 use Rattle.gp_script.specs.Words.{words, is_done}
 use Rattle.gp_ideal.proofs.Octets.{none-octets}
 
--- a device's key, and the octets of a command, are octets
+-- a command is of 1 to 104 octets
+pub record IsCommand (command : List ℕ) : Type 0 where
+  pub octets : IsOctets command
+  pub some : 0 < length command
+  pub room : length command ≤ 104
+
+-- a device's key, a command and a frame are octets, and the command fits a frame
 abbrev pub ActionOctets : Action → Type 0
 ActionOctets (actions.Device named from own kind at device counter) = IsOctets own.0
-ActionOctets (actions.Press device command) = IsOctets command
+ActionOctets (actions.Press device command) = IsCommand command
 ActionOctets (actions.Inject frame) = IsOctets frame
 ActionOctets other = Unit {0}
 
@@ -71,8 +78,22 @@ tested-is test (Some own) value e = go (test own) e
     go true t = t
     go false t = absurd cc
 
-command-read : (word value : List ℕ) → command.read word ≡ Some value → IsOctets value
-command-read word value e = octets-read word value (tested-is (λ (o : List ℕ). nat_le 1 (length o) && nat_le (length o) 104) (octets_in word) value e)
+tested-true : {A : Type 0} (test : A → Bool) (o : Option A) (value : A) → tested_in test o ≡ Some value → test value ≡ true
+tested-true test None value e = absurd cc
+tested-true test (Some own) value e = go (test own) refl e
+  where
+    go : (b : Bool) → test own ≡ b → (if b then Some own else None) ≡ Some value → test value ≡ true
+    go true is t = let same : own ≡ value = cc in ap test (sym same) ∙ is
+    go false is t = absurd cc
+
+command-read : (word value : List ℕ) → command.read word ≡ Some value → IsCommand value
+command-read word value e =
+    let fits = and_parts (nat_le 1 (length value)) (nat_le (length value) 104) (tested-true (λ (o : List ℕ). nat_le 1 (length o) && nat_le (length o) 104) (octets_in word) value e) in
+    record {
+      octets = octets-read word value (tested-is (λ (o : List ℕ). nat_le 1 (length o) && nat_le (length o) 104) (octets_in word) value e);
+      some = (let few = leb-true 1 (length value) fits.0 in omega (arith, few));
+      room = leb-true (length value) 104 fits.1;
+    }
 
 -- ---- words in a row
 
@@ -154,7 +175,7 @@ pair_gives =
     skip (hex w8) _ ActionOctets (λ d. skip number32 (λ c. nothing (actions.Pair n s k i l d c)) ActionOctets (λ c. nothing_gives (actions.Pair n s k i l d c) ActionOctets tt)))))))
 
 press_gives : Gives (frames (codes "press")) ActionOctets
-press_gives = skip name _ ActionOctets (λ n. next_gives command IsOctets command-read (λ c. nothing (actions.Press n c)) ActionOctets (λ c octets. nothing_gives (actions.Press n c) ActionOctets octets))
+press_gives = skip name _ ActionOctets (λ n. next_gives command IsCommand command-read (λ c. nothing (actions.Press n c)) ActionOctets (λ c octets. nothing_gives (actions.Press n c) ActionOctets octets))
 
 hear_gives : Gives (frames (codes "hear")) ActionOctets
 hear_gives = skip number64 _ ActionOctets (λ f. skip name _ ActionOctets (λ n. skip (hex w8) (λ l. nothing (actions.Hear f n l)) ActionOctets (λ l. nothing_gives (actions.Hear f n l) ActionOctets tt)))

@@ -199,7 +199,7 @@ comes_action world line reading (actions.Rule name source command endpoint form)
 comes_action world line reading (actions.Announce name source) next e = comes_announce world line reading _ name source next e
 comes_action world line reading (actions.Table name) next e = comes_table world line reading _ name next e
 comes_action world line reading (actions.Inject octets) next e = Injects octets (λ h. h) (is_ok next (injected world line octets) e)
-comes_action world line reading (actions.Press name command) next e = comes_press world line reading _ name command next (λ h. h) e
+comes_action world line reading (actions.Press name command) next e = comes_press world line reading _ name command next (λ h. h.octets) e
 comes_action world line reading (actions.Hear frame name link) next e = comes_hear world line reading frame link _ name next refl e
 
 pub comes : (world : World) (line : ℕ) (event : Event) (next : Next) → step world line event ≡ Ok next → Comes world line event next

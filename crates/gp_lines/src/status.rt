@@ -22,8 +22,8 @@ pub enum DiskReason {
 /// How a run ends. The exit statuses of the program are 0 to 10 in this order.
 #[derive(Clone, Copy, PartialEq, Eq, Debug)]
 pub enum Status {
-    /// All is done: a listing has read the input to its end and written all of its output, a formatting has written the
-    /// empty store.
+    /// All is done: a listing or a script has read the input to its end and written all of its output, a formatting has
+    /// written the empty store.
     Done,
     /// A line is refused; the lines before it are written.
     BadLine {

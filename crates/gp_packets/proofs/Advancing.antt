@@ -1,13 +1,12 @@
 -- How a listing goes on from place to place in a file, and what it leaves where it stops.
-use Rattle.std.proofs.Common.{◌≡◌, ◌⊎◌, inl, inr, ℕ, ◌+◌, ◌<◌, ◌≤◌, List, [], ◌∷◌, ◌++◌, length, take, drop, Option, Some, None, Result, Ok, Err, refl, sym, ap, subst, ◌∙◌, arith, append_assoc, length-append}
+use Rattle.std.proofs.Common.{◌≡◌, inl, inr, ℕ, ◌+◌, ◌<◌, ◌≤◌, List, [], ◌∷◌, ◌++◌, length, take, Option, Some, None, Result, Ok, Err, refl, sym, ap, subst, ◌∙◌, arith, append_assoc, length-append}
 use Rattle.std.specs.Prelude.{IsTrue, true, false}
 use Rattle.std.specs.Io.KnownBytes.{Appends}
 use Rattle.std.proofs.lemmas.List.{append-nil}
 use Rattle.gp_base.specs.declared.identity.Key.{Key}
 use Rattle.gp_pcap.specs.declared.packet.Packet.{Packet}
 use Rattle.gp_pcap.specs.declared.packet.PcapReason.{PcapReason}
-use Rattle.gp_pcap.specs.declared.packet.PcapReason.TheVariants.{Cut}
-use Rattle.gp_pcap.specs.Capture.{IsFile, IsBad, MayGoOn, IsRefused, header_lines, header_fault}
+use Rattle.gp_pcap.specs.Capture.{IsFile, MayGoOn, header_lines}
 use Rattle.gp_pcap.specs.Reading.{Progress, Stands, Feeds}
 use Rattle.gp_pcap.proofs.Faults.{split}
 use Rattle.gp_pcap.proofs.Unique.{may_go_on_size}
@@ -18,7 +17,7 @@ use Rattle.gp_lines.proofs.Streams.{Appends-then, Appends-nothing, front_is}
 use Rattle.gp_listing.specs.Packets.{packet_text, packets_text}
 use Rattle.gp_packets.specs.declared.stop.Stop.{Stop}
 use Rattle.gp_packets.specs.declared.stop.Stop.TheVariants as stop
-use Rattle.gp_packets.specs.Leaves.{Comes, IsOpen, IsBeyond}
+use Rattle.gp_packets.specs.Leaves.{Comes, IsOpen}
 use Rattle.gp_packets.specs.Progress.{Place, place, IsAt, IsDecided, IsLost, IsStopped, Goes, Lists}
 
 -- packets, and one behind them

@@ -1,6 +1,6 @@
 -- What comes of a file is one thing, so a run that has no cause to stop comes to it.
-use Rattle.std.proofs.Common.{◌≡◌, ◌⊎◌, inl, inr, ℕ, ◌<◌, ◌≤◌, List, [], ◌∷◌, ◌++◌, length, Option, Some, None, refl, sym, ap, subst, ◌∙◌, arith}
-use Rattle.std.specs.Io.KnownBytes.{Consumes, IsAtEnd}
+use Rattle.std.proofs.Common.{◌≡◌, ◌⊎◌, inl, inr, ℕ, ◌<◌, ◌≤◌, List, ◌∷◌, ◌++◌, length, Option, Some, None, refl, sym, ap, subst, ◌∙◌, arith}
+use Rattle.std.specs.Io.KnownBytes.{Consumes}
 use Rattle.std.proofs.lemmas.List.{append-nil}
 use Rattle.gp_base.specs.Outside.{Rose}
 use Rattle.gp_base.specs.declared.identity.Key.{Key}
@@ -12,7 +12,7 @@ use Rattle.gp_lines.specs.declared.status.Status.{Status}
 use Rattle.gp_lines.specs.declared.status.Status.TheVariants as ending
 use Rattle.gp_lines.specs.Leaves.{Counts}
 use Rattle.gp_lines.proofs.Meanings.{rose}
-use Rattle.gp_packets.specs.Leaves.{Comes, Decides, IsBeyond, IsListed, Leaves, Completes}
+use Rattle.gp_packets.specs.Leaves.{Comes, Decides, IsBeyond, Leaves, Completes}
 
 -- one more than there may be is no whole file of few packets, and none that is bad behind few
 beyond_is_no_file : (octets : List ℕ) (ps qs : List Packet) → IsBeyond octets ps → IsFile octets qs → length qs ≤ 1000000 → ⊥

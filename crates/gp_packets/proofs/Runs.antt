@@ -1,12 +1,11 @@
 -- What has been read and written so far, and what each way to end leaves.
-use Rattle.std.proofs.Common.{◌≡◌, ◌⊎◌, inl, inr, ℕ, ◌+◌, ◌<◌, ◌≤◌, List, [], ◌∷◌, ◌++◌, length, take, drop, Option, Some, None, Result, Ok, Err, refl, sym, ap, subst, ◌∙◌, arith, append_assoc, length-append}
+use Rattle.std.proofs.Common.{◌≡◌, inl, inr, ℕ, ◌<◌, ◌≤◌, List, [], ◌++◌, length, take, Option, Ok, Err, refl, sym, ap, subst, ◌∙◌, arith}
 use Rattle.std.specs.Io.KnownBytes.{Appends, Consumes, Keeps, IsAtEnd}
 use Rattle.std.proofs.lemmas.List.{append-nil}
 use Rattle.gp_base.specs.declared.identity.Key.{Key}
-use Rattle.gp_pcap.specs.declared.packet.Packet.{Packet}
 use Rattle.gp_pcap.specs.declared.packet.PcapReason.{PcapReason}
 use Rattle.gp_pcap.specs.Reading.{Progress}
-use Rattle.gp_pcap.specs.Capture.{IsFile, IsBad, header_lines}
+use Rattle.gp_pcap.specs.Capture.{IsBad, header_lines}
 use Rattle.gp_pcap.proofs.Unique.{file_is_good}
 use Rattle.gp_lines.specs.declared.status.Status.{Status}
 use Rattle.gp_lines.specs.declared.status.Status.TheVariants as ending
@@ -16,9 +15,9 @@ use Rattle.gp_lines.proofs.Streams.{Appends-then, Appends-nothing, Consumes-noth
 use Rattle.gp_listing.specs.Packets.{packets_text}
 use Rattle.gp_packets.specs.declared.stop.Stop.{Stop}
 use Rattle.gp_packets.specs.declared.stop.Stop.TheVariants as stop
-use Rattle.gp_packets.specs.Leaves.{Comes, Decides, IsOpen, IsBeyond, IsPart, Fits, Leaves}
+use Rattle.gp_packets.specs.Leaves.{Fits, Leaves}
 use Rattle.gp_packets.specs.LastWords.{Says, Ends, EndsSo}
-use Rattle.gp_packets.specs.Progress.{Place, place, IsAt, IsDecided, IsLost, IsStopped, Goes}
+use Rattle.gp_packets.specs.Progress.{Place, place, IsAt, IsDecided, IsStopped, Goes}
 use Rattle.gp_packets.proofs.Advancing.{fed_size, open_few}
 
 -- these octets were read and fed

@@ -1,6 +1,6 @@
 -- The last text of a run over a capture file, and its status. No clause of a public call cites this file: nothing in it has to be
 -- believed.
-use Rattle.std.specs.Prelude.{◌≡◌, ℕ, List, Option, Result, Ok, Err}
+use Rattle.std.specs.Prelude.{ℕ, List, Option}
 use Rattle.gp_pcap.specs.declared.packet.Packet.{Packet}
 use Rattle.gp_pcap.specs.Capture.{IsFile, IsBad}
 use Rattle.gp_pcap.specs.Reading.{Progress, Stands}

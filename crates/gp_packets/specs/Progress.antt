@@ -1,6 +1,6 @@
 -- How far a capture file has been listed, and why it goes no further. No clause of a public call cites this file: nothing in it has
 -- to be believed.
-use Rattle.std.specs.Prelude.{◌≡◌, ◌⊎◌, ℕ, ◌+◌, ◌≤◌, List, [], ◌∷◌, ◌++◌, length, take, Option, Result, Ok, Err}
+use Rattle.std.specs.Prelude.{◌≡◌, ℕ, ◌+◌, List, ◌++◌, length, take, Option, Result, Ok, Err}
 use Rattle.std.specs.Io.KnownBytes.{Appends}
 use Rattle.gp_base.specs.Outside.{one_more}
 use Rattle.gp_base.specs.declared.identity.Key.{Key}

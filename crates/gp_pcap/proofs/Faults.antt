@@ -1,11 +1,11 @@
 -- Why octets are no header and no whole packet, whatever comes behind them.
-use Rattle.std.proofs.Common.{◌≡◌, ◌⊎◌, inl, inr, ℕ, ◌+◌, ◌%◌, ◌<◌, ◌≤◌, ◌==◌, ◌||◌, Bool, true, false, cond, not, List, [], ◌∷◌, ◌++◌, length, Option, Some, None, refl, sym, ap, ◌∙◌, arith, length-append}
+use Rattle.std.proofs.Common.{◌≡◌, ◌⊎◌, inl, inr, ℕ, ◌+◌, ◌%◌, ◌<◌, ◌≤◌, ◌==◌, ◌||◌, Bool, true, false, cond, not, List, ◌++◌, length, Option, Some, None, refl, ap, ◌∙◌, arith, length-append}
 use Rattle.std.proofs.lemmas.List.{get_or_append_left}
 use Rattle.std.proofs.lemmas.Bool.{lt-ltb, le-ltb}
 use Rattle.gp_pcap.specs.declared.packet.Packet.{Packet}
 use Rattle.gp_pcap.specs.declared.packet.PcapReason.{PcapReason}
 use Rattle.gp_pcap.specs.declared.packet.PcapReason.TheVariants.{Magic, Version, Link, Length, Cut}
-use Rattle.gp_pcap.specs.Capture.{two_of, four_of, is_most_first, magic_of, is_magic, is_version, link_of, has_check, is_link, header_lines, header_fault, IsHeader, packet_lines, packet_fault, included_of, IsPacket}
+use Rattle.gp_pcap.specs.Capture.{two_of, four_of, is_most_first, magic_of, is_magic, is_version, is_link, header_lines, header_fault, IsHeader, packet_lines, packet_fault, included_of, IsPacket}
 use Rattle.gp_pcap.specs.Reading.{IsBegun}
 
 -- numbers and tests in the front of octets

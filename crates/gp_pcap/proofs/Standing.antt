@@ -1,14 +1,14 @@
 -- What an octet makes of what was read.
-use Rattle.std.proofs.Common.{◌≡◌, ◌⊎◌, inl, inr, ℕ, ◌+◌, ◌<◌, List, [], ◌∷◌, ◌++◌, length, Bool, Option, Some, None, Result, Ok, Err, refl, sym, ◌∙◌, ap, subst, arith, append-nil, append_assoc, length-append, take, drop, ◌-◌, ◌≤◌, true, false}
+use Rattle.std.proofs.Common.{◌≡◌, inl, inr, ℕ, ◌+◌, ◌<◌, List, [], ◌∷◌, ◌++◌, length, Bool, Option, Some, None, Result, Ok, Err, refl, sym, ◌∙◌, ap, subst, arith, append-nil, append_assoc, length-append, take, drop, ◌-◌, ◌≤◌}
 use Rattle.std.proofs.Math.Seq.{drop-append_seam, take-nil}
 use Rattle.gp_pcap.specs.declared.packet.Packet.{Packet}
 use Rattle.gp_pcap.specs.declared.packet.PcapReason.{PcapReason}
 use Rattle.gp_pcap.specs.declared.packet.PcapReason.TheVariants.{Length, Cut}
 use Rattle.gp_pcap.specs.declared.pcap.Phase.{Phase}
 use Rattle.gp_pcap.specs.declared.pcap.Phase.TheVariants.{Header, Head, Body, Refused}
-use Rattle.gp_pcap.specs.Capture.{IsHeader, ArePackets, IsPacket, Holds, IsFile, IsBad, MayGoOn, IsRefused, header_fault, packet_fault, four_of, included_of, original_of, kept_size}
+use Rattle.gp_pcap.specs.Capture.{IsHeader, ArePackets, IsPacket, Holds, IsBad, MayGoOn, IsRefused, header_fault, packet_fault, four_of, included_of, original_of, kept_size}
 use Rattle.gp_pcap.specs.Capture.ArePackets.{none, more}
-use Rattle.gp_pcap.specs.Reading.{Progress, Stands, StandsIn, IsKeptIn, Answers, Feeds, given_by, packets_in}
+use Rattle.gp_pcap.specs.Reading.{Progress, Stands, StandsIn, IsKeptIn, Answers, Feeds, given_by}
 use Rattle.gp_pcap.specs.Judging.{Moves, IsTold}
 use Rattle.gp_pcap.proofs.Faults.{begun_fault, cut_fault, long_refused, four_of-append}
 

@@ -2,7 +2,6 @@
 use Rattle.std.specs.Prelude.{◌≡◌, ℕ, ◌+◌, ◌<◌, ◌≤◌, Bool, true, List, [], ◌∷◌, ◌++◌, length, take, Option, Some, None, Result, Ok, Err, MatchResult}
 use Rattle.gp_pcap.specs.declared.packet.Packet.{Packet}
 use Rattle.gp_pcap.specs.declared.packet.PcapReason.{PcapReason}
-use Rattle.gp_pcap.specs.declared.packet.PcapReason.TheVariants.{Cut}
 use Rattle.gp_pcap.specs.declared.pcap.Phase.{Phase}
 use Rattle.gp_pcap.specs.declared.pcap.Phase.TheVariants.{Header, Head, Body, Refused}
 use Rattle.gp_pcap.specs.Capture.{is_most_first, is_magic, is_version, Holds, IsFile, IsBad, MayGoOn, IsRefused, included_of, original_of, kept_size}

@@ -1,8 +1,8 @@
 -- What a verdict tells stands in the rows once its change is made.
-use Rattle.std.proofs.Common.{◌≡◌, ◌<◌, ◌≤◌, ℕ, max, Bool, true, false, List, Option, Some, None, Ok, IfSome, refl, sym, ◌∙◌, ap, subst, arith, slice_get, length}
+use Rattle.std.proofs.Common.{◌≡◌, ◌≤◌, ℕ, max, false, List, Option, Some, None, Ok, IfSome, refl, sym, ◌∙◌, ap, subst, arith, slice_get, length}
 use Rattle.std.proofs.lemmas.Option.{slice_get_within, slice_get_past}
 use Rattle.gp_rows.specs.declared.row.Row.{Row}
-use Rattle.gp_rows.specs.Rows.{IsTable, IsPair, IsNewPair}
+use Rattle.gp_rows.specs.Rows.{IsTable, IsPair}
 use Rattle.gp_rows.specs.Changes.{Pairs, Raises, Retires, place_of, paired_row, with_floor, retired_row, value, with_row, applied}
 use Rattle.gp_rows.proofs.Applied.{slice_get-with_row_same, place_of-within, place_of-there, place_of-new, applied-is, value-raises, value-retires}
 use Rattle.gp_store.specs.Commit.{ordered, Commits}
@@ -11,10 +11,11 @@ use Rattle.gp_ideal.specs.declared.ledger.Change.{Change}
 use Rattle.gp_ideal.specs.declared.ledger.Change.TheVariants.{Pair, Accept, Retire}
 use Rattle.gp_sink.specs.declared.verdict.Verdict.{Verdict}
 use Rattle.gp_sink.specs.declared.verdict.Verdict.TheVariants.{Acted, Paired, Unpaired, Refused, Full, Dropped}
-use Rattle.gp_sink.specs.Ruled.{MayMake, Agrees, PairsAt}
+use Rattle.gp_sink.specs.Ruled.{MayMake}
+use Rattle.gp_sink.specs.Inside.{Agrees, PairsAt}
 use Rattle.gp_store.specs.State.{State}
 use Rattle.gp_disk.specs.declared.device.Disk.{Ghosts}
-use Rattle.gp_sink.specs.Sink.{SinkState, IsStored, IsKept}
+use Rattle.gp_sink.specs.Sink.{SinkState, StandsIn, IsKept}
 use Rattle.gp_sink.specs.Stored.{row_with, stored}
 
 -- the row that is written stands there
@@ -45,14 +46,14 @@ retired rows last at counter due =
     (retired_row counter due.0, there rows (Retires at counter) at (retired_row counter due.0) (omega (arith, within)) (applied-is (Retires at counter) rows at (retired_row counter due.0) refl (value-retires rows at counter due.0 due.1)), (refl, refl))
 
 -- what a verdict tells stands in the rows after its change
-pub kept-after : (rows : List Row) (last : ℕ) (verdict : Verdict) (change : Change) → MayMake rows change → Agrees rows verdict (Some change) → IsStored verdict (applied (stored last change) rows)
+pub kept-after : (rows : List Row) (last : ℕ) (verdict : Verdict) (change : Change) → MayMake rows change → Agrees rows verdict (Some change) → StandsIn verdict (applied (stored last change) rows)
 unfolding value
 kept-after rows last (Acted row source counter command acts) change due is =
     let e = same_change change (Accept row counter) is in
-    subst (λ (x : Change). IsStored (Acted row source counter command acts) (applied (stored last x) rows)) (sym e) (accepted rows last row counter (Acted row source counter command acts) (subst (MayMake rows) e due))
+    subst (λ (x : Change). StandsIn (Acted row source counter command acts) (applied (stored last x) rows)) (sym e) (accepted rows last row counter (Acted row source counter command acts) (subst (MayMake rows) e due))
 kept-after rows last (Unpaired row source counter message) change due is =
     let e = same_change change (Retire row counter) is in
-    subst (λ (x : Change). IsStored (Unpaired row source counter message) (applied (stored last x) rows)) (sym e) (retired rows last row counter (subst (MayMake rows) e due))
+    subst (λ (x : Change). StandsIn (Unpaired row source counter message) (applied (stored last x) rows)) (sym e) (retired rows last row counter (subst (MayMake rows) e due))
 kept-after rows last (Paired row source floor message) (Pair values counter) due is =
     let r = ordered last (row_with values counter) in
     let before = slice_get rows row in
@@ -69,7 +70,7 @@ kept-after rows last Full change due is = tt
 kept-after rows last (Dropped cause) change due is = tt
 
 -- where a verdict has no change, it tells nothing of the rows
-pub kept-before : (rows : List Row) (verdict : Verdict) → Agrees rows verdict None → IsStored verdict rows
+pub kept-before : (rows : List Row) (verdict : Verdict) → Agrees rows verdict None → StandsIn verdict rows
 kept-before rows (Acted row source counter command acts) is = absurd cc
 kept-before rows (Unpaired row source counter message) is = absurd cc
 kept-before rows (Paired row source floor message) is = absurd is.0
@@ -94,9 +95,9 @@ pub keeps : {D : Type 0} (disk : Ghosts D) (wanted : Option Change) (change : Ch
 keeps {D} disk wanted change now old new verdict view want due agrees c =
     let due : MayMake now.store.rows change = subst (λ (x : Option Change). IfSome x (MayMake now.store.rows)) want due in
     let agrees : Agrees now.store.rows verdict (Some change) = subst (Agrees now.store.rows verdict) want agrees in
-    let told : IsStored verdict (applied (stored old.store.last change) old.store.rows) =
-    subst (λ (s : SinkState D). IsStored verdict (applied (stored s.store.last change) s.store.rows)) (sym view) (kept-after now.store.rows now.store.last verdict change due agrees) in
+    let told : StandsIn verdict (applied (stored old.store.last change) old.store.rows) =
+    subst (λ (s : SinkState D). StandsIn verdict (applied (stored s.store.last change) s.store.rows)) (sym view) (kept-after now.store.rows now.store.last verdict change due agrees) in
     record {
-      told = subst (IsStored verdict) (sym (ap (λ (s : State D). s.rows) c.store)) told;
+      told = subst (StandsIn verdict) (sym (ap (λ (s : State D). s.rows) c.store)) told;
       stands = c.stands;
     }

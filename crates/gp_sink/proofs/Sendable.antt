@@ -21,7 +21,7 @@ use Rattle.gp_ideal.specs.declared.config.Config.{Config}
 use Rattle.gp_ideal.specs.declared.ledger.Values.{Values}
 use Rattle.gp_ideal.specs.Messages.{pairing_options, sink_named, group_named, pairing_sent, removal_sent}
 use Rattle.gp_sink.specs.Sink.{IsMessage}
-use Rattle.gp_sink.specs.Wide.{AreWide}
+use Rattle.gp_sink.specs.Inside.{AreWide}
 
 -- ---- octets
 

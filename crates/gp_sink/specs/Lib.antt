@@ -4,4 +4,4 @@ pub mod Ruled
 pub mod Verdict
 pub mod Sink
 pub mod Announced
-pub mod Wide
+pub mod Inside

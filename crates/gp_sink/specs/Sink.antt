@@ -110,15 +110,15 @@ IsRowAt rows at P = (row : Row) × (slice_get rows at ≡ Some row) × P row
 
 -- What a verdict tells stands in the rows: the counter of a frame is the floor of its row, a device that is paired has a live row
 -- with this floor, and one that is unpaired has one that isn't live.
-abbrev pub IsStored : Verdict → List Row → Type 0
-IsStored (Acted row source counter command acts) rows = IsRowAt rows row (λ r. r.floor ≡ counter)
-IsStored (Paired row source floor message) rows = IsRowAt rows row (λ r. (r.src ≡ source) × (r.floor ≡ floor) × (r.live ≡ true))
-IsStored (Unpaired row source counter message) rows = IsRowAt rows row (λ r. (r.floor ≡ counter) × (r.live ≡ false))
-IsStored other rows = Unit {0}
+abbrev pub StandsIn : Verdict → List Row → Type 0
+StandsIn (Acted row source counter command acts) rows = IsRowAt rows row (λ r. r.floor ≡ counter)
+StandsIn (Paired row source floor message) rows = IsRowAt rows row (λ r. (r.src ≡ source) × (r.floor ≡ floor) × (r.live ≡ true))
+StandsIn (Unpaired row source counter message) rows = IsRowAt rows row (λ r. (r.floor ≡ counter) × (r.live ≡ false))
+StandsIn other rows = Unit {0}
 
 -- A verdict is given once it is kept: every image that a crash now may leave holds exactly the rows, in which it stands.
 pub record IsKept {D : Type 0} (disk : Ghosts D) (new : SinkState D) (verdict : Verdict) : Type 0 where
-  pub told : IsStored verdict new.store.rows
+  pub told : StandsIn verdict new.store.rows
   pub stands : Stands (disk.may_leave new.store.disk) new.store.rows new.store.last
 
 -- a message can be sent, under any sequence number

@@ -2,7 +2,7 @@
 ghost use Rattle.std.specs.Prelude.{◌≡◌, ◌<◌, ◌^◌};
 ghost use Rattle.gp_ideal.specs.Messages as words;
 ghost use Rattle.gp_sink.specs.Sink.{IsMessage};
-ghost use Rattle.gp_sink.specs.Wide.{AreWide};
+ghost use Rattle.gp_sink.specs.Inside.{AreWide};
 
 use gp_base::{Mode, Src};
 use gp_cluster::{Cluster, Dest, Pairing, Sent};

@@ -8,7 +8,8 @@ ghost use Rattle.gp_ideal.specs.Verdict as ideal;
 ghost use Rattle.gp_base.specs.Table.{by_table};
 ghost use Rattle.gp_sink.specs.Fits.{Fits};
 ghost use Rattle.gp_rows.specs.declared.row.Row.{Row as OneRow};
-ghost use Rattle.gp_sink.specs.Ruled.{MayMake, Agrees, PairsAt};
+ghost use Rattle.gp_sink.specs.Ruled.{MayMake};
+ghost use Rattle.gp_sink.specs.Inside.{Agrees, PairsAt};
 ghost use Rattle.gp_sink.specs.Sink.{GivesMessage};
 ghost use Rattle.gp_sink.specs.Verdict.{ruling_of, offered};
 

@@ -12,7 +12,8 @@ ghost use Rattle.gp_ideal.specs.Heard as words;
 ghost use Rattle.gp_ideal.specs.Ledger as ledgers;
 ghost use Rattle.gp_ideal.specs.Verdict as ideal;
 ghost use Rattle.gp_sink.specs.Fits.{Fits, shown};
-ghost use Rattle.gp_sink.specs.Ruled.{Agrees, MayMake, HasFloor, IsAbove, HasNoneCurrent, IsOfUnknown};
+ghost use Rattle.gp_sink.specs.Ruled.{MayMake, HasNoneCurrent, IsOfUnknown};
+ghost use Rattle.gp_sink.specs.Inside.{Agrees, HasFloor, IsAbove};
 ghost use Rattle.gp_sink.specs.Sink.{GivesMessage};
 ghost use Rattle.gp_sink.specs.Verdict.{ruling_of};
 

@@ -10,7 +10,8 @@ ghost use Rattle.gp_ideal.specs.Heard.{heard};
 ghost use Rattle.gp_ideal.specs.Paired.{paired};
 ghost use Rattle.gp_sink.specs.Announced.{announced, IsInGroup};
 ghost use Rattle.gp_sink.specs.Fits.{Fits};
-ghost use Rattle.gp_sink.specs.Ruled.{MayMake, Agrees, IsOfUnknown};
+ghost use Rattle.gp_sink.specs.Ruled.{MayMake, IsOfUnknown};
+ghost use Rattle.gp_sink.specs.Inside.{Agrees};
 ghost use Rattle.gp_sink.specs.Verdict.{verdict_of, offered};
 ghost use Rattle.gp_sink.specs.Sink.{Answers, Comes, HasCause, Goes, IsKept, GivesMessage, IsMessage};
 

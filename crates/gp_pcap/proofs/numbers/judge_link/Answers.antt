@@ -1,4 +1,4 @@
-use Rattle.std.proofs.Common.{◌≡◌, true, false, [], sym, ap, ◌∙◌, append-nil}
+use Rattle.std.proofs.Common.{true, false, [], sym, ap, ◌∙◌, append-nil}
 use Rattle.gp_pcap.specs.Capture.{header_fault}
 use Rattle.gp_pcap.proofs.Faults.{whole_fault}
 use Rattle.gp_pcap.proofs.numbers.judge_link.Goals as goal

@@ -1,4 +1,4 @@
-use Rattle.std.proofs.Common.{◌≡◌, sym, ◌∙◌}
+use Rattle.std.proofs.Common.{sym, ◌∙◌}
 use Rattle.gp_pcap.proofs.Faults.{version_refused}
 use Rattle.gp_pcap.proofs.numbers.judge_version.Goals as goal
 

@@ -3,7 +3,7 @@ use Rattle.std.proofs.lemmas.Option.{slice_get_within}
 use Rattle.gp_ideal.specs.declared.ledger.Change.TheVariants.{Pair}
 use Rattle.gp_ideal.specs.Messages.{pairing_sent}
 use Rattle.gp_ideal.specs.Verdict.{Paired, remembers}
-use Rattle.gp_sink.specs.Ruled.{PairsAt}
+use Rattle.gp_sink.specs.Inside.{PairsAt}
 use Rattle.gp_sink.proofs.Keeping.{pairs-there, pairs-new}
 use Rattle.gp_sink.proofs.Placed.{pairs_in, pairs_full, place_of_pair, place_of_new}
 use Rattle.gp_sink.specs.Verdict.{ruling_of}

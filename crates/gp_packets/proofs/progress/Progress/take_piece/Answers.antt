@@ -1,4 +1,4 @@
-use Rattle.std.proofs.Common.{◌≡◌, length, refl, ap, ◌∙◌, arith}
+use Rattle.std.proofs.Common.{refl, ◌∙◌, arith}
 use Rattle.gp_packets.specs.Progress.{Place, place}
 use Rattle.gp_packets.proofs.Advancing.{went_start, went_more, went_stop}
 use Rattle.gp_packets.proofs.progress.Progress.take_piece.Goals as goal

@@ -1,4 +1,4 @@
-use Rattle.std.proofs.Common.{◌≡◌, ap, ◌∙◌, sym, subst, length, arith}
+use Rattle.std.proofs.Common.{ap, sym, subst, length, arith}
 use Rattle.gp_pcap.specs.Reading.{Stands, Progress}
 use Rattle.gp_pcap.proofs.Standing.{ends_refused, ends_header, ends_head, ends_body}
 use Rattle.gp_pcap.proofs.pcap.Pcap.ending.Goals as goal

@@ -1,4 +1,4 @@
-use Rattle.std.proofs.Common.{◌≡◌, sym, subst}
+use Rattle.std.proofs.Common.{sym, subst}
 use Rattle.gp_pcap.specs.Reading.{Stands, Progress}
 use Rattle.gp_pcap.proofs.Standing.{feeds, feeds_again}
 use Rattle.gp_pcap.proofs.pcap.Pcap.feed.Goals as goal

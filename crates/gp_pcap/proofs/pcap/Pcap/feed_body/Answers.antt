@@ -1,4 +1,4 @@
-use Rattle.std.proofs.Common.{◌≡◌, ℕ, ◌+◌, List, [], ◌∷◌, ◌++◌, ◌∙◌, sym, ap, subst, append_assoc, length-append, arith}
+use Rattle.std.proofs.Common.{ℕ, ◌+◌, List, [], ◌∷◌, ◌++◌, ◌∙◌, sym, ap, subst, append_assoc, length-append, arith}
 use Rattle.gp_pcap.specs.declared.pcap.Phase.TheVariants.{Body}
 use Rattle.gp_pcap.specs.Reading.{Stands, Progress}
 use Rattle.gp_pcap.proofs.Standing.{stands-part, kept-part, counted, holds-more, holds-packet, is_packet, cleared}

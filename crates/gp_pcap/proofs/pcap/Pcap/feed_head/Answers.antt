@@ -1,4 +1,4 @@
-use Rattle.std.proofs.Common.{◌≡◌, ◌+◌, List, [], ◌∷◌, ◌++◌, ◌∙◌, sym, ap, subst, append-nil, arith, length, length-append}
+use Rattle.std.proofs.Common.{◌+◌, List, [], ◌∷◌, ◌++◌, ◌∙◌, sym, ap, subst, append-nil, arith, length, length-append}
 use Rattle.gp_pcap.specs.declared.packet.Packet.{Packet}
 use Rattle.gp_pcap.specs.declared.pcap.Phase.{Phase}
 use Rattle.gp_pcap.specs.declared.pcap.Phase.TheVariants.{Head}
