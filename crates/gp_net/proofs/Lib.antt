@@ -1,0 +1,12 @@
+pub mod Places
+pub mod Settling
+pub mod Events
+pub mod Pressing
+pub mod Joining
+pub mod Coming
+pub mod Keeping
+pub mod Listing
+pub mod Starting
+pub mod Stepping
+pub mod Making
+pub mod Asked

@@ -1,0 +1,9 @@
+pub mod Devices
+pub mod Nodes
+pub mod Net
+pub mod Steady
+pub mod World
+pub mod Inside
+pub mod Telling
+pub mod Sinks
+pub mod Made

@@ -1,0 +1,578 @@
+//! A network: the frames on the air, how many messages were sent, and the nodes.
+ghost use Rattle.std.specs.Prelude.{◌≡◌, ◌||◌, ◌<◌, ◌≤◌, ◌+◌, ◌-◌, ◌^◌, ◌++◌, ℕ, length, Ok, Some, None, true, false, IfSome, IfNone, OnOk, OnErr, is_some, vec_capacity};
+ghost use Rattle.std.specs.Str.{bytes_eq};
+ghost use Rattle.gp_script.specs.declared.script.Action.{Action as AnAction};
+ghost use Rattle.gp_sink.specs.Sink.{GivesMessage};
+ghost use Rattle.gp_sink.specs.Verdict.{offered};
+ghost use Rattle.gp_ideal.specs.World.{World, entries, put_reports, injected};
+ghost use Rattle.gp_ideal.specs.Step as steps;
+ghost use Rattle.gp_ideal.specs.Sinks.{sink_pairs, sink_rules, sink_announces, sink_lists};
+ghost use Rattle.gp_ideal.specs.Sinks as words;
+ghost use Rattle.gp_ideal.specs.Devices.{device_presses};
+ghost use Rattle.std.specs.List.{count_by, list_any};
+ghost use Rattle.gp_net.specs.Inside.{place, is_a_device, is_a_sink, is_at, IsPlaceOf, HasNone, IsReady, IsAction, IsAtSink, MakesNoNode, NeedsRoom, HasRoom, Joins, ComesTo, ComesOf, Told};
+ghost use Rattle.gp_net.specs.Devices.{ideal_of};
+ghost use Rattle.gp_net.specs.Made.{says_verdict, puts_verdict};
+ghost use Rattle.gp_net.specs.Steady.{IsSteadyNet};
+ghost use Rattle.gp_net.specs.Net.{IsNetOf, IsSameNet};
+
+use crate::device::Device;
+use crate::fault::NetFault;
+use crate::node::{Kind, Node};
+use crate::sinks::{message_of, new_sink};
+use crate::telling::Telling;
+use gp_base::place::put_last;
+use gp_base::{Key, KeyKind, Level, Mode, NoMemory, Octets, Src};
+use gp_commission::Offer;
+use gp_script::{Action, Cause, Dropped, LineReason, Name, Report, RuleForm, SinkMode};
+use gp_sink::{Config, Verdict};
+use gp_translate::{Rule, Target};
+use std::alloc::Global;
+
+/// The most sinks, and the most devices.
+const MOST: usize = 64;
+
+/// The link key where a script names none.
+const DEFAULT_LINK: Key = Key(*b"ZigBeeAlliance09");
+
+/// The frames on the air, how many messages were sent, and the nodes under their names.
+#[derive(Drop)]
+pub struct Net {
+    pub air: Vec<Octets>,
+    pub sent: u64,
+    pub nodes: Vec<(Name, Node)>,
+}
+
+// The place of the first node of this name.
+fn place_of(nodes: &[(Name, Node)], name: &Name) -> Option<usize>
+    ensures first { result ≡ place name.now nodes.now }
+    ensures below { IfSome result (λ at. at < length nodes.now) }
+{
+    let mut at = 0;
+    for node in nodes {
+        if node.0.as_slice() == name.as_slice() {
+            return Some(at);
+        }
+        at += 1;
+    }
+    None
+}
+
+// The place of the sink of this name.
+fn sink_at(nodes: &[(Name, Node)], name: &Name) -> Option<usize>
+    ensures found { IfSome result (IsPlaceOf true nodes.now name.now) }
+    ensures absent { IfNone result (HasNone true nodes.now name.now) }
+{
+    let at = place_of(nodes, name)?;
+    if nodes[at].1.kind.is_sink() {
+        return Some(at);
+    }
+    None
+}
+
+// The place of the device of this name.
+fn device_at(nodes: &[(Name, Node)], name: &Name) -> Option<usize>
+    ensures found { IfSome result (IsPlaceOf false nodes.now name.now) }
+    ensures absent { IfNone result (HasNone false nodes.now name.now) }
+{
+    let at = place_of(nodes, name)?;
+    if nodes[at].1.kind.is_sink() {
+        return None;
+    }
+    Some(at)
+}
+
+// Whether a node has this name.
+fn is_taken(nodes: &[(Name, Node)], name: &Name) -> bool
+    ensures { result ≡ is_some (place name.now nodes.now) }
+{
+    place_of(nodes, name).is_some()
+}
+
+// Whether a node has this address.
+#[tactic(auto, unfolding(crate::specs::Inside::is_at))]
+fn has_address(nodes: &[(Name, Node)], address: u16) -> bool
+    ensures { result ≡ list_any (is_at address) nodes.now }
+{
+    nodes.iter().any(|node| node.1.kind.has_address(address))
+}
+
+// Whether a node has this name or this address.
+fn is_claimed(nodes: &[(Name, Node)], name: &Name, address: u16) -> bool
+    ensures { result ≡ (is_some (place name.now nodes.now) || list_any (is_at address) nodes.now) }
+{
+    is_taken(nodes, name) || has_address(nodes, address)
+}
+
+// How many sinks there are.
+#[tactic(auto, unfolding(crate::specs::Inside::is_a_sink))]
+fn sinks_among(nodes: &[(Name, Node)]) -> usize
+    ensures { result ≡ count_by is_a_sink nodes.now }
+{
+    let mut count = 0;
+    for node in nodes {
+        if node.1.kind.is_sink() {
+            count += 1;
+        }
+    }
+    count
+}
+
+// How many devices there are.
+#[tactic(auto, unfolding(crate::specs::Inside::is_a_device))]
+fn devices_among(nodes: &[(Name, Node)]) -> usize
+    ensures { result ≡ count_by is_a_device nodes.now }
+{
+    let mut count = 0;
+    for node in nodes {
+        if !node.1.kind.is_sink() {
+            count += 1;
+        }
+    }
+    count
+}
+
+impl Net {
+    /// Sets room aside for one more frame and one more node.
+    pub fn make_room(&mut self) -> Result<(), NoMemory>
+        ensures room { OnOk result (HasRoom self.new) }
+        ensures same { IsSameNet self.old self.new }
+    {
+        let Ok(()) = self.air.reserve(1) else {
+            return Err(NoMemory);
+        };
+        let Ok(()) = self.nodes.reserve(1) else {
+            return Err(NoMemory);
+        };
+        Ok(())
+    }
+
+    // A node reports a verdict, with its acts, and puts its message.
+    fn tell(&mut self, telling: &mut Telling, name: &Name, verdict: Verdict)
+        requires message { GivesMessage verdict }
+        requires room { length telling.old.entries.items + 6 ≤ vec_capacity telling.old.entries }
+        requires few { self.old.sent < 2 ^ 64 - 1 }
+        ensures told { Told (entries telling.old.line (Some name.now) (says_verdict verdict ++ put_reports self.old.sent (puts_verdict verdict))) telling.old telling.new }
+        ensures sent { self.new ≡ record self.old { sent = self.old.sent + length (puts_verdict verdict) } }
+    {
+        telling.tell(name, &verdict);
+        if let Some(sent) = message_of(verdict) {
+            telling.put(name, self.sent, sent);
+            self.sent += 1;
+        }
+    }
+
+    // The frame of this number reaches the node of this name.
+    fn hear(
+        &mut self,
+        telling: &mut Telling,
+        reading: u64,
+        frame: u64,
+        name: &Name,
+    ) -> Result<(), LineReason>
+        requires ready { IsReady self.old telling.old }
+        ensures comes { (model : World) → IsNetOf self.old model → ComesTo (steps.hears model telling.old.line reading frame name.now) self.new telling.old telling.new result }
+        ensures kept { OnErr result (self.new ≡ self.old) }
+        ensures steady { IsSteadyNet telling.old.line self.new }
+    {
+        let Some(at) = place_of(&self.nodes, name) else {
+            return Err(LineReason::Absent);
+        };
+        let Some(octets) = self.air.get(frame as usize) else {
+            return Err(LineReason::Missing);
+        };
+        let node = &mut self.nodes[at].1;
+        match node.hear(reading, octets.as_slice()) {
+            Some(verdict) => self.tell(telling, name, verdict),
+            None => telling.say(name, Report::Closed),
+        }
+        Ok(())
+    }
+
+    // A device is to be paired with the sink of this name.
+    fn pair(
+        &mut self,
+        telling: &mut Telling,
+        reading: u64,
+        name: &Name,
+        offer: &Offer,
+    ) -> Result<(), LineReason>
+        requires ready { IsReady self.old telling.old }
+        ensures comes { (model : World) → IsNetOf self.old model
+            → ComesTo (steps.at_sink model telling.old.line reading name.now (λ sink. sink_pairs (offered sink.config offer.now) offer.now.counter sink)) self.new telling.old telling.new result }
+        ensures kept { OnErr result (self.new ≡ self.old) }
+        ensures steady { IsSteadyNet telling.old.line self.new }
+    {
+        let Some(at) = sink_at(&self.nodes, name) else {
+            return Err(LineReason::Absent);
+        };
+        let node = &mut self.nodes[at].1;
+        let verdict = node.pair(reading, offer);
+        self.tell(telling, name, verdict);
+        Ok(())
+    }
+
+    // A rule is to be added to those of the sink of this name.
+    fn add_rule(
+        &mut self,
+        telling: &mut Telling,
+        reading: u64,
+        name: &Name,
+        rule: Rule,
+    ) -> Result<(), LineReason>
+        requires ready { IsReady self.old telling.old }
+        ensures comes { (model : World) → IsNetOf self.old model → ComesTo (steps.at_sink model telling.old.line reading name.now (sink_rules rule)) self.new telling.old telling.new result }
+        ensures kept { OnErr result (self.new ≡ self.old) }
+        ensures steady { IsSteadyNet telling.old.line self.new }
+    {
+        let Some(at) = sink_at(&self.nodes, name) else {
+            return Err(LineReason::Absent);
+        };
+        let node = &mut self.nodes[at].1;
+        let answer = node.add_rule(reading, rule);
+        telling.say(name, Report::Rule { answer });
+        Ok(())
+    }
+
+    // The sink of this name tells of a current pairing again.
+    fn announce(
+        &mut self,
+        telling: &mut Telling,
+        reading: u64,
+        name: &Name,
+        source: Src,
+    ) -> Result<(), LineReason>
+        requires ready { IsReady self.old telling.old }
+        ensures comes { (model : World) → IsNetOf self.old model → ComesTo (steps.at_sink model telling.old.line reading name.now (sink_announces source)) self.new telling.old telling.new result }
+        ensures kept { OnErr result (self.new ≡ self.old) }
+        ensures steady { IsSteadyNet telling.old.line self.new }
+    {
+        let Some(at) = sink_at(&self.nodes, name) else {
+            return Err(LineReason::Absent);
+        };
+        let node = &mut self.nodes[at].1;
+        match node.announce(reading, source) {
+            Some(sent) => {
+                telling.put(name, self.sent, sent);
+                self.sent += 1;
+            }
+            None => telling.say(
+                name,
+                Report::Drop {
+                    cause: Dropped::Plain(Cause::Unknown),
+                },
+            ),
+        }
+        Ok(())
+    }
+
+    // The sink of this name lists its rows.
+    fn list(&mut self, telling: &mut Telling, reading: u64, name: &Name) -> Result<(), LineReason>
+        requires ready { IsReady self.old telling.old }
+        requires entries { 1025 ≤ vec_capacity telling.old.entries }
+        ensures comes { (model : World) → IsNetOf self.old model → ComesTo (steps.at_sink model telling.old.line reading name.now sink_lists) self.new telling.old telling.new result }
+        ensures kept { OnErr result (self.new ≡ self.old) }
+        ensures steady { IsSteadyNet telling.old.line self.new }
+    {
+        let Some(at) = sink_at(&self.nodes, name) else {
+            return Err(LineReason::Absent);
+        };
+        let node = &mut self.nodes[at].1;
+        node.list(reading, telling, name);
+        Ok(())
+    }
+
+    // The device of this name sends a command.
+    fn press(
+        &mut self,
+        telling: &mut Telling,
+        reading: u64,
+        name: &Name,
+        command: &[u8],
+    ) -> Result<(), LineReason>
+        requires ready { IsReady self.old telling.old }
+        requires some { 0 < length command.now }
+        requires few { length command.now ≤ 104 }
+        ensures comes { (model : World) → IsNetOf self.old model → ComesTo (steps.at_device model telling.old.line reading name.now (device_presses command.now)) self.new telling.old telling.new result }
+        ensures kept { OnErr result (self.new ≡ self.old) }
+        ensures steady { IsSteadyNet telling.old.line self.new }
+    {
+        let Some(at) = device_at(&self.nodes, name) else {
+            return Err(LineReason::Absent);
+        };
+        let node = &mut self.nodes[at].1;
+        let Some(octets) = node.press(reading, command) else {
+            telling.say(name, Report::End);
+            return Ok(());
+        };
+        telling.air(name, self.air.len() as u64, &octets);
+        put_last(&mut self.air, octets);
+        Ok(())
+    }
+
+    // Octets come on the air that no node sent.
+    fn inject(&mut self, telling: &mut Telling, octets: &Octets)
+        requires ready { IsReady self.old telling.old }
+        ensures comes { (model : World) → IsNetOf self.old model → ComesTo (Ok (injected model telling.old.line octets.now)) self.new telling.old telling.new (Ok tt) }
+        ensures steady { IsSteadyNet telling.old.line self.new }
+    {
+        telling.inject(self.air.len() as u64, octets);
+        put_last(&mut self.air, octets.copy());
+    }
+
+    /// A sink comes, under a name and an address that no node has.
+    fn add_sink(
+        &mut self,
+        alloc: Global,
+        reading: u64,
+        name: &Name,
+        config: Config,
+    ) -> Result<(), NetFault>
+        requires room { length self.old.nodes.items < vec_capacity self.old.nodes }
+        ensures joins { (model : World) → IsNetOf self.old model → Joins (steps.makes_sink model reading name.now config) self.new result }
+        ensures kept { OnErr result (self.new ≡ self.old) }
+        ensures steady { (line : ℕ) → IsSteadyNet line self.old → IsSteadyNet line self.new }
+    {
+        if is_claimed(&self.nodes, name, config.address) {
+            return Err(NetFault::Bad(LineReason::Taken));
+        }
+        if MOST <= sinks_among(&self.nodes) {
+            return Err(NetFault::Bad(LineReason::Many));
+        }
+        let Ok(sink) = new_sink(alloc, config) else {
+            return Err(NetFault::NoMemory);
+        };
+        let node = Node {
+            kind: Kind::Sink(sink),
+            time: reading,
+        };
+        put_last(&mut self.nodes, (name.copy(), node));
+        Ok(())
+    }
+
+    /// A device comes, under a name that no node has.
+    fn add_device(&mut self, reading: u64, name: &Name, device: Device) -> Result<(), NetFault>
+        requires room { length self.old.nodes.items < vec_capacity self.old.nodes }
+        requires first { device.sequence ≡ 0 }
+        ensures joins { (model : World) → IsNetOf self.old model → Joins (steps.makes_device model reading name.now (ideal_of device)) self.new result }
+        ensures kept { OnErr result (self.new ≡ self.old) }
+        ensures steady { (line : ℕ) → IsSteadyNet line self.old → IsSteadyNet line self.new }
+    {
+        if is_taken(&self.nodes, name) {
+            return Err(NetFault::Bad(LineReason::Taken));
+        }
+        if MOST <= devices_among(&self.nodes) {
+            return Err(NetFault::Bad(LineReason::Many));
+        }
+        let node = Node {
+            kind: Kind::Device(device),
+            time: reading,
+        };
+        put_last(&mut self.nodes, (name.copy(), node));
+        Ok(())
+    }
+
+    /// Plays a line that makes a node, and any other by `happen`.
+    #[tactic(auto, unfolding(gp_ideal::specs::Step::acted_on))]
+    pub fn play(
+        &mut self,
+        alloc: Global,
+        telling: &mut Telling,
+        reading: u64,
+        action: &Action,
+    ) -> Result<(), NetFault>
+        requires ready { IsReady self.old telling.old }
+        requires action { IsAction action.now }
+        requires entries { NeedsRoom action.now (vec_capacity telling.old.entries) }
+        ensures comes { (model : World) → IsNetOf self.old model → ComesOf (steps.acted_on model telling.old.line reading action.now) self.new telling.old telling.new result }
+        ensures kept { OnErr result (self.new ≡ self.old) }
+        ensures steady { IsSteadyNet telling.old.line self.new }
+    {
+        match action {
+            Action::Sink {
+                name,
+                address,
+                ieee,
+                mode,
+                channel,
+                link,
+                shared,
+            } => {
+                let config = config_of(*address, *ieee, *mode, *channel, link, shared);
+                self.add_sink(alloc, reading, name, config)
+            }
+            Action::Device {
+                name,
+                source,
+                key,
+                kind,
+                level,
+                device,
+                counter,
+            } => {
+                let device = Device::new(*source, *key, *kind, *level, *device, *counter);
+                self.add_device(reading, name, device)
+            }
+            other => match self.happen(telling, reading, other) {
+                Ok(()) => Ok(()),
+                Err(reason) => Err(NetFault::Bad(reason)),
+            },
+        }
+    }
+
+    // Plays a line that makes no node.
+    #[tactic(auto, unfolding(gp_ideal::specs::Step::acted_on))]
+    fn happen(
+        &mut self,
+        telling: &mut Telling,
+        reading: u64,
+        action: &Action,
+    ) -> Result<(), LineReason>
+        requires ready { IsReady self.old telling.old }
+        requires action { IsAction action.now }
+        requires kind { MakesNoNode action.now }
+        requires entries { NeedsRoom action.now (vec_capacity telling.old.entries) }
+        ensures comes { (model : World) → IsNetOf self.old model → ComesTo (steps.acted_on model telling.old.line reading action.now) self.new telling.old telling.new result }
+        ensures kept { OnErr result (self.new ≡ self.old) }
+        ensures steady { IsSteadyNet telling.old.line self.new }
+    {
+        match action {
+            Action::Sink { .. } | Action::Device { .. } => unreachable!(),
+            Action::Inject { frame } => {
+                self.inject(telling, frame);
+                Ok(())
+            }
+            Action::Press { device, command } => {
+                self.press(telling, reading, device, command.as_slice())
+            }
+            Action::Hear {
+                frame,
+                node,
+                link: _,
+            } => self.hear(telling, reading, *frame, node),
+            other => self.at_sink(telling, reading, other),
+        }
+    }
+
+    // Plays a line in which a sink takes part that is there.
+    #[tactic(auto, unfolding(gp_ideal::specs::Step::acted_on))]
+    fn at_sink(
+        &mut self,
+        telling: &mut Telling,
+        reading: u64,
+        action: &Action,
+    ) -> Result<(), LineReason>
+        requires ready { IsReady self.old telling.old }
+        requires kind { IsAtSink action.now }
+        requires entries { NeedsRoom action.now (vec_capacity telling.old.entries) }
+        ensures comes { (model : World) → IsNetOf self.old model → ComesTo (steps.acted_on model telling.old.line reading action.now) self.new telling.old telling.new result }
+        ensures kept { OnErr result (self.new ≡ self.old) }
+        ensures steady { IsSteadyNet telling.old.line self.new }
+    {
+        match action {
+            Action::Pair {
+                sink,
+                source,
+                key,
+                kind,
+                level,
+                device,
+                counter,
+            } => {
+                let offer = offer_of(*source, *key, *kind, *level, *device, *counter);
+                self.pair(telling, reading, sink, &offer)
+            }
+            Action::Rule {
+                sink,
+                source,
+                command,
+                endpoint,
+                form,
+            } => {
+                let rule = rule_of(*source, *command, *endpoint, form);
+                self.add_rule(telling, reading, sink, rule)
+            }
+            Action::Announce { sink, source } => self.announce(telling, reading, sink, *source),
+            Action::Table { sink } => self.list(telling, reading, sink),
+            _ => unreachable!(),
+        }
+    }
+}
+
+// What a script pairs.
+fn offer_of(source: Src, key: Key, kind: KeyKind, level: Level, device: u8, counter: u32) -> Offer
+    ensures { result ≡ record { src = source; key = key; kind = kind; level = level; device = device; counter = counter } }
+{
+    Offer {
+        src: source,
+        key,
+        kind,
+        level,
+        device,
+        counter,
+    }
+}
+
+// A rule of a script.
+fn rule_of(source: Option<Src>, command: u8, endpoint: u8, form: &RuleForm) -> Rule
+    ensures { result ≡ words.rule_of source command endpoint form.now }
+{
+    Rule {
+        source,
+        command,
+        endpoint,
+        target: target_of(form),
+    }
+}
+
+// How a script sets a sink up.
+fn config_of(
+    address: u16,
+    ieee: u64,
+    mode: SinkMode,
+    channel: u8,
+    link: &Option<Key>,
+    shared: &Key,
+) -> Config
+    ensures { result ≡ steps.config_of address ieee mode channel link.now shared.now }
+{
+    let (mode, group) = match mode {
+        SinkMode::Derived => (Mode::Derived, 0),
+        SinkMode::Unicast => (Mode::Unicast, 0),
+        SinkMode::Group(group) => (Mode::Commissioned, group),
+    };
+    Config {
+        address,
+        ieee,
+        mode,
+        group,
+        channel,
+        link: match link {
+            Some(link) => *link,
+            None => DEFAULT_LINK,
+        },
+        shared: *shared,
+    }
+}
+
+// What a rule of a script makes of a command.
+fn target_of(form: &RuleForm) -> Target
+    ensures { result ≡ words.target_of form.now }
+{
+    match form {
+        RuleForm::Table => Target::Parsed,
+        RuleForm::Copy { cluster, command } => Target::Copy {
+            cluster: *cluster,
+            zcl: *command,
+        },
+        RuleForm::Fixed {
+            cluster,
+            command,
+            payload,
+        } => Target::Fixed {
+            cluster: *cluster,
+            zcl: *command,
+            payload: payload.copy(),
+        },
+    }
+}
