@@ -1,0 +1,73 @@
+//! The playing of a script as a work that takes its lines.
+
+ghost use Rattle.std.specs.Prelude.{◌≡◌, ◌++◌, OnOk};
+ghost use Rattle.gp_simulation.specs.Playing.{line_of_entry, report_text};
+
+use gp_base::NoMemory;
+use gp_lines::{Halt, Work};
+use gp_net::{NetFault, World};
+use gp_script::{Entry, LineReason, print_entry, read_event};
+use std::alloc::Global;
+
+/// A world on which a script is played.
+#[derive(Drop)]
+pub struct Simulation {
+    /// Where memory comes from.
+    pub alloc: Global,
+    /// The world.
+    pub world: World,
+}
+
+impl Work for Simulation {
+    ghost use Rattle.std.specs.Prelude.{◌<◌};
+    ghost use Rattle.gp_net.specs.World.{Stands, line_of};
+    ghost use Rattle.gp_simulation.specs.Simulation.{Goes, Stops};
+
+    ghost goes = { λ old number line text new. Goes Stands old.world number line text new.world };
+
+    ghost awaits = { λ work number. line_of work.world < number };
+
+    ghost stops = { λ old number line halt new. Stops Stands old.world number line halt new.world };
+
+    fn take(&mut self, number: u64, line: &[u8], text: &mut Vec<u8>) -> Result<(), Halt> {
+        let Ok(event) = read_event(line) else {
+            return Err(Halt::Bad(LineReason::Form));
+        };
+        let told = match self.world.step(self.alloc, number, &event) {
+            Ok(told) => told,
+            Err(NetFault::Bad(reason)) => return Err(Halt::Bad(reason)),
+            Err(NetFault::NoMemory) => return Err(Halt::NoMemory),
+        };
+        match put_report(self.alloc, told.as_slice(), text) {
+            Ok(()) => Ok(()),
+            Err(_) => Err(Halt::NoMemory),
+        }
+    }
+}
+
+// Adds the text of a report.
+fn put_report(alloc: Global, report: &[Entry], text: &mut Vec<u8>) -> Result<(), NoMemory>
+    ensures { OnOk result (text.new.items ≡ text.old.items ++ report_text report.now) }
+{
+    let mut rest = report;
+    'entries: while let Some((entry, others)) = rest.split_first() {
+        put_entry(alloc, entry, text)?;
+        rest = others;
+    }
+    Ok(())
+}
+
+// Adds the line of an entry, with an LF.
+#[tactic(auto, unfolding(crate::specs::Playing::line_of_entry))]
+fn put_entry(alloc: Global, entry: &Entry, text: &mut Vec<u8>) -> Result<(), NoMemory>
+    ensures { OnOk result (text.new.items ≡ text.old.items ++ line_of_entry entry.now) }
+{
+    let line = print_entry(alloc, entry)?;
+    if text.extend_from_slice(line.as_slice()).is_err() {
+        return Err(NoMemory);
+    }
+    if text.push(b'\n').is_err() {
+        return Err(NoMemory);
+    }
+    Ok(())
+}
