@@ -24,7 +24,7 @@ fail() {
 
 page() {
   case $1 in
-    gp | decode | format | pcap | statuses | terms) cat -- "$top/docs/help/$1.txt" ;;
+    gp | decode | format | pcap | sim | statuses | terms) cat -- "$top/docs/help/$1.txt" ;;
     *) fail "there is no page '$1'; 'gp help' names the pages" ;;
   esac
 }
@@ -51,37 +51,51 @@ version() {
   if command -v rt > /dev/null; then rt version; else echo "no toolchain"; fi
 }
 
-# Proves every crate, a line each, and links the program.
+# The crates that the program is made of, lowest first.
+parts() {
+  awk -F: '
+    /^[a-z]/ { names[++count] = $1; needs[$1] = $2 }
+    END {
+      wanted["gp_cli"] = 1
+      for (i = count; i > 0; i--) {
+        if (!(names[i] in wanted)) continue
+        n = split(needs[names[i]], below, " ")
+        for (j = 1; j <= n; j++) wanted[below[j]] = 1
+      }
+      for (i = 1; i <= count; i++) if (names[i] in wanted) print names[i]
+    }' "$top/crates.txt"
+}
+
+# Proves each crate that the program is made of, a line each, and links the program.
 build() {
   needs_toolchain
-  count=$(grep -c '^[a-z]' "$top/crates.txt")
-  say "proving $count crates; from nothing this takes some 20 minutes on two processors, and 10 on four"
+  names=$(parts)
+  count=$(echo "$names" | wc -l)
+  say "proving $count crates; from nothing this takes some 40 minutes on two processors, and 20 on four"
   begun=$(date +%s)
-  (cd "$top" && rt all check --jobs "$(nproc)") < /dev/null 2>&1 | {
-    name=
-    done=0
-    while read -r line; do
-      case $line in
-        "crate "*)
-          name=${line#crate }
-          name=${name%%:*}
-          ;;
-        "logic=proved "*)
-          done=$((done + 1))
-          echo "gp: $done of $count: $name is proved ($(($(date +%s) - begun)) s)" >&2
-          ;;
-      esac
-    done
-  }
-  say "linking the program"
-  make_program || fail "the sources aren't proved as they stand; 'rt check' in a crate's folder says why"
-  say "the proved program is there ($(($(date +%s) - begun)) s)"
+  done=0
+  for name in $names; do
+    if [ "$name" = gp_cli ]; then
+      make_program || fail "gp_cli isn't proved as it stands; 'rt check' in crates/gp_cli says why"
+    else
+      (cd "$top/crates/$name" && rt lib) < /dev/null > /dev/null 2>&1 || fail "$name isn't proved as it stands; 'rt check' in crates/$name says why"
+    fi
+    done=$((done + 1))
+    say "$done of $count: $name is proved ($(($(date +%s) - begun)) s)"
+  done
+  say "the proved program is there"
 }
 
 # Says more where the status alone leaves a user in doubt: the status, where the input came from, and the command.
 explain() {
   case $1 in
-    1) say "a line has pairs of hexadecimal digits, or 'zcl ' and such pairs; 'gp help decode' says more" ;;
+    1)
+      if [ "$3" = sim ]; then
+        say "in $2; 'gp help sim' has the forms of a line, and says what each reason means"
+      else
+        say "a line has pairs of hexadecimal digits, or 'zcl ' and such pairs; 'gp help decode' says more"
+      fi
+      ;;
     2) say "'gp --help' has the commands" ;;
     3) say "$2 can't be read" ;;
     5) say "the disk is the file gp.disk in $PWD" ;;
@@ -90,7 +104,7 @@ explain() {
       if [ "$3" = pcap ]; then
         say "in $2: at most 1,000,000 packets can be listed; 'editcap -F pcap -c 1000000 IN OUT' cuts it into parts"
       else
-        say "in $2: at most 1,000,000 lines of at most 1,024 characters can be listed"
+        say "in $2: there may be at most 1,000,000 lines of at most 1,024 characters"
       fi
       ;;
     10) say "in $2; 'gp help pcap' has the reasons, and what makes a file that can be listed" ;;
@@ -163,11 +177,12 @@ case ${1-} in
     ;;
 esac
 
-# The last argument of decode and of pcap is a file, where it is no option and no key.
+# The last argument of decode, of pcap and of sim is a file, where it is no option and no key.
 input="standard input"
 case ${1-} in
   decode) most=4 ;;
   pcap) most=3 ;;
+  sim) most=2 ;;
   *) most=0 ;;
 esac
 if [ $# -gt 1 ] && [ $# -le "$most" ]; then

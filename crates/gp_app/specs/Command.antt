@@ -6,7 +6,7 @@ use Rattle.std.specs.Str.{bytes_eq}
 use Rattle.hex.specs.Hex.{decode_of}
 use Rattle.gp_base.specs.declared.identity.Key.{Key}
 use Rattle.gp_app.specs.declared.command.Command.{Command}
-use Rattle.gp_app.specs.declared.command.Command.TheVariants.{Decode, Format, Pcap}
+use Rattle.gp_app.specs.declared.command.Command.TheVariants.{Decode, Format, Pcap, Sim}
 use Rattle.gp_listing.specs.declared.form.ListingForm.{ListingForm}
 use Rattle.gp_listing.specs.declared.form.Style.{Style}
 use Rattle.gp_listing.specs.declared.form.Style.TheVariants.{Text, Json}
@@ -39,13 +39,20 @@ pcap_words [] = Some (Pcap None)
 pcap_words (word ∷ []) = option_map (λ key. Pcap (Some key)) (key_of word)
 pcap_words (word ∷ other ∷ others) = None
 
--- the three, and nothing else
+-- nothing follows `sim`
+abbrev pub sim_words : List (List ℕ) → Option Command
+sim_words [] = Some Sim
+sim_words (word ∷ others) = None
+
+-- the four, and nothing else
 abbrev pub command_of : List (List ℕ) → Option Command
 command_of [] = None
 command_of (word ∷ others) =
     if bytes_eq word (codes "decode")
     then listing_words others
-    else if bytes_eq word (codes "format") then format_words others else if bytes_eq word (codes "pcap") then pcap_words others else None
+    else if bytes_eq word (codes "format")
+    then format_words others
+    else if bytes_eq word (codes "pcap") then pcap_words others else if bytes_eq word (codes "sim") then sim_words others else None
 
 -- a fact of the form where the arguments ask for the listing of a capture, and one where they ask for the formatting
 abbrev pub OnDecode : Option Command → (ListingForm → Type 0) → Type 0
@@ -60,3 +67,12 @@ OnFormat _ fact = Unit {0}
 abbrev pub OnPcap : Option Command → (Option Key → Type 0) → Type 0
 OnPcap (Some (Pcap key)) Fact = Fact key
 OnPcap _ Fact = Unit {0}
+
+-- one where they ask for the report of a script, and one where they ask for anything else
+abbrev pub OnSim : Option Command → Type 0 → Type 0
+OnSim (Some Sim) fact = fact
+OnSim _ fact = Unit {0}
+
+abbrev pub ExceptSim : Option Command → Type 0 → Type 0
+ExceptSim (Some Sim) fact = Unit {0}
+ExceptSim _ fact = fact

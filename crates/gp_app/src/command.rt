@@ -17,6 +17,8 @@ pub enum Command {
     Format,
     /// The listing of a capture file, under a key that may be absent.
     Pcap(Option<Key>),
+    /// The report of a script.
+    Sim,
 }
 
 /// What these arguments ask for, and `None` where they are no form of the command line.
@@ -34,6 +36,9 @@ pub fn read_command(words: &[Word]) -> Option<Command>
     }
     if word.as_slice() == b"pcap".as_slice() {
         return pcap_words(others);
+    }
+    if word.as_slice() == b"sim".as_slice() {
+        return sim_words(others);
     }
     None
 }
@@ -82,6 +87,16 @@ fn pcap_words(words: &[Word]) -> Option<Command>
             let key = read_key(word.as_slice())?;
             Some(Command::Pcap(Some(key)))
         }
+        _ => None,
+    }
+}
+
+// What follows `sim`.
+fn sim_words(words: &[Word]) -> Option<Command>
+    ensures { result ≡ spec.sim_words words.now }
+{
+    match words {
+        [] => Some(Command::Sim),
         _ => None,
     }
 }

@@ -1,12 +1,17 @@
 //! The top call.
 
 ghost use Rattle.std.specs.Prelude.{◌≡◌, ℕ, [], IfSome, IfNone, None, ◌↔◌};
-ghost use Rattle.gp_app.specs.Command.{command_of, OnDecode, OnFormat, OnPcap};
+ghost use Rattle.std.specs.Option.{IsSomeAnd};
+ghost use Rattle.gp_app.specs.Command.{command_of, OnDecode, OnFormat, OnPcap, OnSim, ExceptSim};
 ghost use Rattle.gp_app.specs.Formatting.{FormatCompletes, FormatLeaves};
 ghost use Rattle.gp_app.specs.Leaves.{Completes, Leaves};
 ghost use Rattle.gp_lines.specs.Leaves.{Counts};
 ghost use Rattle.gp_listing.specs.Form.{listing_of};
+ghost use Rattle.gp_lines.specs.Leaves as lines;
+ghost use Rattle.gp_net.specs.World.{Stands};
 ghost use Rattle.gp_packets.specs.Leaves as packets;
+ghost use Rattle.gp_simulation.specs.Playing as playing;
+ghost use Rattle.gp_simulation.specs.Playing.{Plays, StopsAt};
 
 use crate::command::{Command, read_command};
 use crate::decoding::Decoding;
@@ -14,7 +19,9 @@ use gp_base::{Out, Source, Word};
 use gp_disk::Disk;
 use gp_lines::{DiskReason, Status, run_lines};
 use gp_listing::ListingForm;
+use gp_net::World;
 use gp_packets::list_packets;
+use gp_simulation::simulate;
 use gp_store::{StoreFault, format};
 use std::alloc::Global;
 
@@ -22,19 +29,20 @@ use std::alloc::Global;
 const HELD: usize = 65_536;
 
 /// Does what the arguments ask for: reads the source, writes the output or the disk, answers how that ended, and hands the
-/// disk back.
+/// disk back, and the world that a script was played on.
 ///
 /// `decode` lists the lines of a capture, a line each, and `decode --json` lists them as JSON. A key behind them,
 /// 32 hexadecimal digits, opens secured frames: the listing says whether the MIC of each is right under it, and where it
 /// is shows the command in clear. `format` writes an empty store on the disk. `pcap` lists the packets of a capture file, a line
-/// each, with the same key behind it or none.
+/// each, with the same key behind it or none. `sim` plays the lines of a script on a network and writes what is reported; the disk
+/// is as it was.
 pub fn run<S: Source, O: Out, D: Disk>(
     alloc: Global,
     words: &[Word],
     source: &mut S,
     out: &mut O,
     disk: D,
-) -> (Status, D)
+) -> (Status, D, Option<World>)
     ensures usage { IfNone (command_of words.now) ((result.0 ≡ Status.Usage) × (source.new ≡ source.old) × (out.new ≡ out.old) × (result.1 ≡ disk)) }
 
     ensures leaves { OnDecode (command_of words.now) (λ form. Leaves (listing_of form) result.0
@@ -52,12 +60,26 @@ pub fn run<S: Source, O: Out, D: Disk>(
     ensures packets_count { OnPcap (command_of words.now) (λ key. Counts result.0 (S.faults source.old) (S.faults source.new) (O.faults out.old) (O.faults out.new)) }
     ensures packets_complete { OnPcap (command_of words.now) (λ key. packets.Completes result.0 (S.left source.old) (S.faults source.old) (S.faults source.new) (O.faults out.old) (O.faults out.new)) }
     ensures packets_keep_the_disk { OnPcap (command_of words.now) (λ key. result.1 ≡ disk) }
+
+    ensures plays { OnSim (command_of words.now) (IsSomeAnd result.2 (λ world. lines.Leaves (Plays Stands) (StopsAt Stands) 0 world result.0
+        (S.left source.old) (S.left source.new) (O.written out.old) (O.written out.new))) }
+    ensures plays_count { OnSim (command_of words.now) (Counts result.0 (S.faults source.old) (S.faults source.new) (O.faults out.old) (O.faults out.new)) }
+    ensures plays_complete { OnSim (command_of words.now) (playing.Completes result.0 (S.left source.old) (S.faults source.old) (S.faults source.new) (O.faults out.old) (O.faults out.new)) }
+    ensures plays_keep_the_disk { OnSim (command_of words.now) (result.1 ≡ disk) }
+    ensures no_other_world { ExceptSim (command_of words.now) (result.2 ≡ None) }
 {
     match read_command(words) {
-        None => (Status::Usage, disk),
-        Some(Command::Decode(form)) => (list_lines(alloc, form, source, out), disk),
-        Some(Command::Format) => format_disk(disk),
-        Some(Command::Pcap(key)) => (list_packets(alloc, key, source, out), disk),
+        None => (Status::Usage, disk, None),
+        Some(Command::Decode(form)) => (list_lines(alloc, form, source, out), disk, None),
+        Some(Command::Format) => {
+            let (status, disk) = format_disk(disk);
+            (status, disk, None)
+        }
+        Some(Command::Pcap(key)) => (list_packets(alloc, key, source, out), disk, None),
+        Some(Command::Sim) => {
+            let (status, world) = simulate(alloc, source, out);
+            (status, disk, Some(world))
+        }
     }
 }
 

@@ -10,6 +10,7 @@ mod formatting;
 mod frames;
 mod packets;
 mod rows;
+mod scripts;
 
 // A run over an input in pieces of so many octets, with calls that are to fail.
 #[derive(Clone, Copy)]
@@ -35,7 +36,7 @@ pub(crate) fn outcome(rt: &HostRuntime, case: &Case) -> Result<(Status, Vec<u8>)
         .ok()
         .ok_or("memory")?;
     let disk = MemoryDisk::new(rt.alloc(), 0).ok().ok_or("memory")?;
-    let (status, _disk) = run(rt.alloc(), &words, &mut source, &mut out, disk);
+    let (status, _disk, _world) = run(rt.alloc(), &words, &mut source, &mut out, disk);
     let written = Vec::from_slice(rt.alloc(), out.written())?;
     Ok((status, written))
 }

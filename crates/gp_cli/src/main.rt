@@ -34,6 +34,6 @@ fn run_with(rt: &HostRuntime) -> Status {
     };
     let mut source = ReadSource::new(rt.stdin());
     let mut out = WriteOut::new(io::writer(rt));
-    let (status, _disk) = run(rt.alloc(), &words, &mut source, &mut out, disk);
+    let (status, _disk, _world) = run(rt.alloc(), &words, &mut source, &mut out, disk);
     status
 }

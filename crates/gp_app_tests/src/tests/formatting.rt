@@ -12,7 +12,8 @@ fn formatted(rt: &HostRuntime, disk: MemoryDisk) -> Result<(Status, MemoryDisk),
         .ok()
         .ok_or("memory")?;
     let mut out = MemoryOut::new(rt.alloc(), 1, 1, &[0]).ok().ok_or("memory")?;
-    Ok(run(rt.alloc(), &words, &mut source, &mut out, disk))
+    let (status, disk, _world) = run(rt.alloc(), &words, &mut source, &mut out, disk);
+    Ok((status, disk))
 }
 
 // A disk of zeros, the same again, and a disk that is one octet too small.

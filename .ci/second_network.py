@@ -1,0 +1,509 @@
+"""A second network: it plays scripts as docs/network.md and docs/formats.md say, and is written from these two pages alone. Its
+sinks are lists of changes and its cipher is that of .ci/secured; it shares nothing with the program."""
+import importlib.machinery
+import importlib.util
+import os
+import re
+
+_loader = importlib.machinery.SourceFileLoader("secured", os.path.join(os.path.dirname(os.path.abspath(__file__)), "secured"))
+_spec = importlib.util.spec_from_loader("secured", _loader)
+_secured = importlib.util.module_from_spec(_spec)
+_loader.exec_module(_secured)
+round_keys, sealed = _secured.round_keys, _secured.sealed
+
+LAST_COUNTER = 2**32 - 1
+LAST_READING = 2**64 - 1 - 100_000_000
+MOST_NODES, MOST_ROWS, MOST_RULES = 64, 1024, 64
+INDIVIDUAL_KINDS = (4, 7)
+MODES = {"derived": 1, "group": 2, "unicast": 3}
+
+
+class Bad(Exception):
+    """A line that ends the run, by its reason."""
+
+
+# ---- the words of a line
+
+HEX = r"(?:[0-9A-Fa-f]{2}){1,127}|-"
+DECIMAL = r"0|[1-9][0-9]*"
+WORDS = {
+    "name": r"[a-z][a-z0-9]{0,7}", "addr": r"[0-9A-Fa-f]{4}", "ieee": r"[0-9A-Fa-f]{16}", "src": r"[0-9A-Fa-f]{8}",
+    "octet": r"[0-9A-Fa-f]{2}", "key": r"[0-9A-Fa-f]{32}", "link": r"[0-9A-Fa-f]{32}|-", "kind": r"[12347]", "level": r"[23]",
+    "mode": r"derived|unicast|group:[0-9A-Fa-f]{4}", "channel": r"1[1-9]|2[0-6]", "any": r"[0-9A-Fa-f]{8}|any", "hex": HEX,
+    "number": DECIMAL,
+}
+FORMS = {
+    "sink": ["name", "addr", "ieee", "mode", "channel", "link", "key"],
+    "device": ["name", "src", "key", "kind", "level", "octet", "number"],
+    "pair": ["name", "src", "key", "kind", "level", "octet", "number"],
+    "press": ["name", "hex"], "inject": ["hex"], "hear": ["number", "name", "octet"], "announce": ["name", "src"], "table": ["name"],
+}
+TARGETS = {"table": [], "copy": ["addr", "octet"], "fixed": ["addr", "octet", "hex"]}
+
+
+def fits(kinds, words):
+    return len(kinds) == len(words) and all(re.fullmatch(WORDS[kind], word) for kind, word in zip(kinds, words))
+
+
+def octets_of(word):
+    return b"" if word == "-" else bytes.fromhex(word)
+
+
+def shown(octets):
+    return octets.hex().upper() or "-"
+
+
+def form_of(line):
+    """The keyword and the words of a line that has a form; nothing for a line that does nothing."""
+    if line == "" or line.startswith("#"):
+        return None
+    words = line.split(" ")
+    if len(words) < 2 or not re.fullmatch(DECIMAL, words[0]) or int(words[0]) > LAST_READING:
+        raise Bad("Form")
+    keyword, rest = words[1], words[2:]
+    if keyword == "rule":
+        good = len(rest) > 4 and fits(["name", "any", "octet", "octet"], rest[:4]) and rest[4] in TARGETS and fits(TARGETS[rest[4]], rest[5:])
+    else:
+        good = keyword in FORMS and fits(FORMS[keyword], rest)
+    if not good:
+        raise Bad("Form")
+    if keyword in ("device", "pair") and int(rest[-1]) > LAST_COUNTER or keyword == "hear" and int(rest[0]) > 2**64 - 1:
+        raise Bad("Form")
+    if keyword == "press" and not 1 <= len(octets_of(rest[1])) <= 104:
+        raise Bad("Form")
+    return keyword, rest
+
+
+# ---- frames (docs/formats.md, sections 1 and 4)
+
+class Frame:
+    """What stands in the octets of a frame, or the fault of octets that are none."""
+
+    def __init__(self, octets):
+        self.fault = self._fault(octets)
+        if self.fault is not None:
+            return
+        control, has_extension = octets[7], octets[7] >> 7
+        self.extension = octets[8] if has_extension else 0
+        self.level, self.to_device = self.extension >> 3 & 3, self.extension >> 7
+        self.individual = self.extension >> 5 & 1
+        at = 8 + has_extension
+        self.source = None
+        if control & 3 == 0 or has_extension:
+            self.source, at = int.from_bytes(octets[at:at + 4], "little"), at + 4
+        self.counter, self.mic, end = None, None, len(octets)
+        if self.level >= 2:
+            self.counter, at = int.from_bytes(octets[at:at + 4], "little"), at + 4
+            end -= 4
+            self.mic = octets[end:]
+        self.header, self.body = octets[7:at], octets[at:end]
+
+    @staticmethod
+    def _fault(octets):
+        length = len(octets)
+        if length > 125:
+            return "TooLong", 125
+        if length < 2:
+            return "Short", length
+        if octets[:2] != b"\x01\x08":
+            return "MacForm", 0
+        if length < 8:
+            return "Short", length
+        control = octets[7]
+        if control & 3 > 1:
+            return "FrameKind", 7
+        if control >> 2 & 15 != 3:
+            return "Version", 7
+        extended = control >> 7
+        level = 0
+        if extended:
+            if length < 9:
+                return "Short", length
+            level = octets[8] >> 3 & 3
+            if octets[8] & 7:
+                return "AppId", 8
+            if level == 1:
+                return "LevelOne", 8
+            if control & 1 and level:
+                return "SecuredMaintenance", 8
+        begin = 8 + extended + (4 if control & 1 == 0 or extended else 0) + (4 if level else 0)
+        if length < begin + (4 if level else 0):
+            return "Short", length
+        if length == begin + (4 if level else 0):
+            return "NoCommand", begin
+        return None
+
+    def opened(self, keys):
+        """The command in clear where the MIC verifies under the key, else nothing."""
+        source, counter = self.source.to_bytes(4, "little"), self.counter.to_bytes(4, "little")
+        nonce = (bytes(4) if self.to_device else source) + source + counter + b"\x05"
+        if self.level == 2:
+            return self.body if sealed(keys, nonce, self.header + self.body, b"")[1] == self.mic else None
+        command = sealed(keys, nonce, b"", self.body)[0]
+        return command if sealed(keys, nonce, self.header, command)[1] == self.mic else None
+
+
+def pressed(sequence, source, keys, kind, level, counter, command):
+    header = bytes([0x8C, level << 3 | (kind in INDIVIDUAL_KINDS) << 5]) + source.to_bytes(4, "little") + counter.to_bytes(4, "little")
+    nonce = source.to_bytes(4, "little") * 2 + counter.to_bytes(4, "little") + b"\x05"
+    if level == 2:
+        body, mic = command, sealed(keys, nonce, header + command, b"")[1]
+    else:
+        body, mic = sealed(keys, nonce, header, command)
+    return b"\x01\x08" + bytes([sequence]) + b"\xFF\xFF\xFF\xFF" + header + body + mic
+
+
+def derived_group(source):
+    low, high = source & 0xFFFF, source >> 16
+    for group in (low, low ^ high):
+        if 1 <= group <= 0xFFF7:
+            return group
+    return 7 if low == 0 else low - 8
+
+
+# ---- commands (section 2) and the acts of a rule (section 8)
+
+def value_size(kind, octets):
+    """The octets of a ZCL value of this type, its length octet among them; nothing for another type, a size past the end where
+    octets are missing."""
+    for first, sizes in ((0x08, 8), (0x18, 8), (0x20, 8), (0x28, 8)):
+        if first <= kind < first + sizes:
+            return kind - first + 1
+    if kind in (0x41, 0x42):
+        if not octets:
+            return 1
+        return 1 if octets[0] == 0xFF else 1 + octets[0]
+    return {0x10: 1, 0x30: 1, 0x31: 2, 0x38: 2, 0x39: 4, 0x3A: 8, 0xE0: 4, 0xE1: 4, 0xE2: 4, 0xE8: 2, 0xE9: 2, 0xF0: 8}.get(kind)
+
+
+def report_reads(octets):
+    """Whether a report's octets behind the identifier can be read."""
+    if len(octets) < 2:
+        return False
+    at = 2
+    while at < len(octets):
+        if len(octets) < at + 3:
+            return False
+        size = value_size(octets[at + 2], octets[at + 3:])
+        if size is None or len(octets) < at + 3 + size:
+            return False
+        at += 3 + size
+    return True
+
+
+STANDARD = [0x00, *range(0x10, 0x20), 0x20, 0x21, 0x22, *range(0x30, 0x39), 0x50, 0x51, 0xA0]
+
+
+def table_act(command):
+    """Cluster, general or not, ZCL command and payload of a command of the standard table, or nothing where it can't be read."""
+    first, rest = command[0], command[1:]
+    if first == 0x00:
+        return 0x0003, 0, 0x00, b"\x3C\x00"
+    if 0x10 <= first < 0x20:
+        return 0x0005, 0, 0x05 if first < 0x18 else 0x04, bytes([0, 0, first & 7])
+    if 0x20 <= first <= 0x22:
+        return 0x0006, 0, first - 0x20, b""
+    if first in (0x30, 0x31, 0x35, 0x36):
+        down = first in (0x31, 0x36)
+        return 0x0008, 0, 0x01 if first < 0x35 else 0x05, bytes([down]) + (rest[:1] or b"\xFF")
+    if first in (0x32, 0x33, 0x37, 0x38):
+        if not rest:
+            return None
+        down = first in (0x33, 0x38)
+        return 0x0008, 0, 0x02 if first < 0x35 else 0x06, bytes([down]) + rest[:1] + (rest[1:3] if len(rest) >= 3 else b"\xFF\xFF")
+    if first == 0x34:
+        return 0x0008, 0, 0x03, b""
+    if first in (0x50, 0x51):
+        return 0x0101, 0, first - 0x50, b""
+    if not report_reads(rest):
+        return None
+    return int.from_bytes(rest[:2], "little"), 1, 0x0A, rest[2:]
+
+
+def commissioning_reads(octets):
+    at = 2
+    if len(octets) < 2:
+        return False
+    options, extended, application = octets[1], 0, 0
+    if options >> 7:
+        if len(octets) < 3:
+            return False
+        extended, at = octets[2], 3
+        if extended & 3 == 1 or extended >> 2 & 7 in (5, 6):
+            return False
+        at += (extended >> 5 & 1) * 16 + (4 if extended & 0x60 == 0x60 else 0) + (extended >> 7) * 4
+    if options >> 2 & 1:
+        if len(octets) <= at:
+            return False
+        application, at = octets[at], at + 1
+        at += 2 * (application & 1) + 2 * (application >> 1 & 1)
+        if application >> 2 & 1:
+            if len(octets) <= at:
+                return False
+            at += 1 + octets[at]
+        if application >> 3 & 1:
+            if len(octets) <= at:
+                return False
+            at += 1 + 2 * ((octets[at] & 15) + (octets[at] >> 4))
+    return len(octets) >= at
+
+
+def reply_reads(octets):
+    if not octets or octets[0] >> 3 & 3 == 1 or octets[0] >> 5 in (5, 6):
+        return False
+    options = octets[0]
+    return len(octets) >= 1 + 2 * (options & 1) + 16 * (options >> 1 & 1) + (8 if options & 6 == 6 else 0)
+
+
+def reads(command):
+    """Whether a command can be read (section 2)."""
+    first, rest = command[0], command[1:]
+    if first in (0x32, 0x33, 0x37, 0x38, 0x69, 0x6A, 0xE3, 0xF3):
+        return len(rest) >= 1
+    if first == 0xA0:
+        return report_reads(rest)
+    if first == 0xE0:
+        return commissioning_reads(rest)
+    return reply_reads(rest) if first == 0xF0 else True
+
+
+class Rule:
+    def __init__(self, source, command, endpoint, target, payload=b""):
+        self.source, self.command, self.endpoint, self.target, self.payload = source, command, endpoint, target, payload
+
+    def act(self, command):
+        if self.target is None:
+            cluster, general, zcl, payload = table_act(command)
+        else:
+            (cluster, zcl), general, payload = self.target[:2], 0, command[1:] if self.target[2] == "copy" else self.payload
+        return f"zcl {self.endpoint:02X} {cluster:04X} {general} {zcl:02X} {shown(payload)}"
+
+
+def add_rule(rules, rule):
+    if rule.command >= 0xE0 or rule.target is None and rule.command not in STANDARD or len(rule.payload) > 32:
+        return "form"
+    if len(rules) >= MOST_RULES:
+        return "full"
+    same = [other for other in rules + [rule] if other.command == rule.command]
+    general = [other for other in same if other.source is None]
+    sources = {other.source for other in same} - {None}
+    most = max([len(general)] + [len(general) + sum(other.source == source for other in same) for source in sources])
+    if most >= 5:
+        return "many"
+    rules.append(rule)
+    return "added"
+
+
+# ---- a sink
+
+class Sink:
+    def __init__(self, words):
+        address, ieee, mode, _channel, _link, _shared = words
+        self.address, self.ieee = int(address, 16), int(ieee, 16)
+        self.mode = MODES[mode.split(":")[0]]
+        self.group = int(mode.split(":")[1], 16) if ":" in mode else 0
+        self.rules = [Rule(None, command, 1, None) for command in STANDARD]
+        # the changes, oldest first: ("pair", SrcID, key, kind, level, mode, group, DeviceID, counter), ("accept" or "retire", row, counter)
+        self.ledger = []
+        # what can be read off the list of changes, kept so that long scripts end: rows, and of each its last Pair, whether it is
+        # live and its floor; of each SrcID the row that was paired last
+        self.pairs, self.values, self.live, self.floors, self.last = [], [], [], [], {}
+
+    def change(self, change):
+        self.ledger.append(change)
+        if change[0] == "pair":
+            pair = change[1], change[2]
+            if pair not in self.pairs:
+                self.pairs.append(pair)
+                self.values.append(None), self.live.append(None), self.floors.append(0)
+            row = self.pairs.index(pair)
+            self.values[row], self.live[row], self.last[change[1]] = change, True, row
+        else:
+            row = change[1]
+            self.live[row] = self.live[row] and change[0] != "retire"
+        self.floors[row] = max(self.floors[row], change[-1])
+        return row
+
+    def current(self, source):
+        row = self.last.get(source)
+        return row if row is not None and self.live[row] else None
+
+    def pairing(self, row):
+        _, source, key, kind, level, mode, group, device, _ = self.values[row]
+        options = 1 << 3 | mode << 5 | level << 9 | kind << 11 | 1 << 14 | 1 << 15
+        place = self.ieee.to_bytes(8, "little") + self.address.to_bytes(2, "little") if mode == 3 else group.to_bytes(2, "little")
+        return (options.to_bytes(3, "little") + source.to_bytes(4, "little") + place + bytes([device])
+                + self.floors[row].to_bytes(4, "little") + key)
+
+
+class Device:
+    def __init__(self, words):
+        source, key, kind, level, _device, counter = words
+        self.source, self.keys, self.kind, self.level = int(source, 16), round_keys(bytes.fromhex(key)), int(kind), int(level)
+        self.counter, self.sent = int(counter), 0
+
+
+# ---- the network
+
+class Network:
+    def __init__(self):
+        self.air, self.messages, self.nodes, self.report, self.schedules = [], 0, {}, [], {}
+
+    def say(self, number, name, text):
+        self.report.append(f"{number} {name} {text}")
+
+    def node(self, name, kind=None):
+        node = self.nodes.get(name)
+        if node is None or kind is not None and not isinstance(node, kind):
+            raise Bad("Absent")
+        return node
+
+    def put(self, number, name, message):
+        octets = bytes([0x19, self.messages & 255, 0x01]) + message
+        self.say(number, name, f"put {self.messages} all {shown(octets)}")
+        self.messages += 1
+
+    def send(self, number, name, octets):
+        self.say(number, name, f"air {len(self.air)} {shown(octets)}")
+        self.air.append(octets)
+
+    def add(self, name, node):
+        kin = [other for other in self.nodes.values() if type(other) is type(node)]
+        if name in self.nodes or isinstance(node, Sink) and any(other.address == node.address for other in kin):
+            raise Bad("Taken")
+        if len(kin) >= MOST_NODES:
+            raise Bad("Many")
+        self.nodes[name] = node
+
+    def keys(self, key):
+        if key not in self.schedules:
+            self.schedules[key] = round_keys(key)
+        return self.schedules[key]
+
+    def heard(self, number, name, sink, octets):
+        frame = Frame(octets)
+        if frame.fault is not None:
+            return self.say(number, name, f"drop Malformed {frame.fault[0]} {frame.fault[1]}")
+        if frame.to_device:
+            return self.say(number, name, "drop ToDevice")
+        if frame.level == 0:
+            return self.say(number, name, "refused NotListening" if frame.body[0] == 0xE0 else "drop Unsecured")
+        row = sink.current(frame.source)
+        if row is None:
+            return self.say(number, name, "drop Unknown")
+        _, _, key, kind, level, _, _, _, _ = sink.values[row]
+        if frame.individual != (kind in INDIVIDUAL_KINDS):
+            return self.say(number, name, "drop KeyBit")
+        if frame.level != level:
+            return self.say(number, name, "drop LevelOther")
+        command = frame.opened(self.keys(key))
+        if command is None:
+            return self.say(number, name, "drop BadTag")
+        if frame.counter <= sink.floors[row]:
+            return self.say(number, name, f"drop Stale {sink.floors[row]}")
+        if command[0] == 0xE1:
+            sink.change(("retire", row, frame.counter))
+            self.say(number, name, f"unpaired {row} {frame.source:08X} {frame.counter}")
+            return self.put(number, name, (1 << 4).to_bytes(3, "little") + frame.source.to_bytes(4, "little"))
+        sink.change(("accept", row, frame.counter))
+        acts = []
+        if reads(command):
+            acts = [rule.act(command) for rule in sink.rules if rule.command == command[0] and rule.source in (None, frame.source)]
+        self.say(number, name, f"acted {row} {frame.source:08X} {frame.counter} {command[0]:02X} {len(acts)}")
+        for act in acts:
+            self.say(number, name, act)
+
+    def paired(self, number, name, words):
+        sink = self.node(name, Sink)
+        source, key, kind, level, device, counter = words
+        source, key, counter = int(source, 16), bytes.fromhex(key), int(counter)
+        if not 1 <= source <= 0xFFFFFFF8:
+            return self.say(number, name, "refused BadSource")
+        if counter == LAST_COUNTER:
+            return self.say(number, name, "refused CounterEnd")
+        if (source, key) not in sink.pairs and len(sink.pairs) >= MOST_ROWS:
+            return self.say(number, name, "refused TableFull")
+        group = {1: derived_group(source), 2: sink.group, 3: 0}[sink.mode]
+        row = sink.change(("pair", source, key, int(kind), int(level), sink.mode, group, int(device, 16), counter))
+        self.say(number, name, f"paired {row} {source:08X} {sink.floors[row]}")
+        self.put(number, name, sink.pairing(row))
+
+    def pressed(self, number, name, command):
+        device = self.node(name, Device)
+        if device.counter == LAST_COUNTER:
+            return self.say(number, name, "end")
+        device.counter += 1
+        octets = pressed(device.sent & 255, device.source, device.keys, device.kind, device.level, device.counter, command)
+        device.sent += 1
+        self.send(number, name, octets)
+
+    def ruled(self, number, name, words):
+        sink = self.node(name, Sink)
+        source, command, endpoint, target = words[:4]
+        kept = None if target == "table" else (int(words[4], 16), int(words[5], 16), target)
+        payload = octets_of(words[6]) if target == "fixed" else b""
+        rule = Rule(None if source == "any" else int(source, 16), int(command, 16), int(endpoint, 16), kept, payload)
+        self.say(number, name, "rule " + add_rule(sink.rules, rule))
+
+    def hears(self, number, frame, name):
+        node = self.node(name)
+        if frame >= len(self.air):
+            raise Bad("Missing")
+        if isinstance(node, Device):
+            return self.say(number, name, "closed")
+        self.heard(number, name, node, self.air[frame])
+
+    def tabled(self, number, name):
+        sink = self.node(name, Sink)
+        self.say(number, name, f"rows {len(sink.pairs)}")
+        for row, (source, _) in enumerate(sink.pairs):
+            _, _, _, kind, level, mode, group, device, _ = sink.values[row]
+            self.say(number, name, f"row {row} {source:08X} {kind} {level} {mode} {group:04X} {device:02X} {int(sink.live[row])} {sink.floors[row]}")
+
+    def announced(self, number, name, source):
+        sink = self.node(name, Sink)
+        row = sink.current(source)
+        if row is None:
+            return self.say(number, name, "drop Unknown")
+        self.put(number, name, sink.pairing(row))
+
+    def step(self, number, line):
+        form = form_of(line)
+        if form is None:
+            return
+        keyword, words = form
+        if keyword == "sink":
+            self.add(words[0], Sink(words[1:]))
+        elif keyword == "device":
+            self.add(words[0], Device(words[1:]))
+        elif keyword == "pair":
+            self.paired(number, words[0], words[1:])
+        elif keyword == "press":
+            self.pressed(number, words[0], octets_of(words[1]))
+        elif keyword == "inject":
+            self.send(number, "-", octets_of(words[0]))
+        elif keyword == "hear":
+            self.hears(number, int(words[0]), words[1])
+        elif keyword == "rule":
+            self.ruled(number, words[0], words[1:])
+        elif keyword == "announce":
+            self.announced(number, words[0], int(words[1], 16))
+        else:
+            self.tabled(number, words[0])
+
+
+def lines_of(script):
+    """The lines of a script: a CR before LF goes, and so does an empty last part."""
+    *ended, last = script.split("\n")
+    return [line[:-1] if line.endswith("\r") else line for line in ended] + ([last] if last else [])
+
+
+def played(script):
+    """The report of a script, and the text of its status: nothing where it was played to its end."""
+    network = Network()
+    for number, line in enumerate(lines_of(script), 1):
+        try:
+            network.step(number, line)
+        except Bad as bad:
+            return network.report, f"gp: bad line {number}: {bad}\n"
+    return network.report, ""
