@@ -10,9 +10,10 @@ case $self in
 esac
 crate=$top/crates/gp_cli
 program=$crate/out/gp_cli
-# What an unproved run takes: its output has to stay below 1 MiB.
+# What an unproved run takes, and how many octets it can write.
 octets=100000
 lines=2000
+report=1000000
 
 say() { echo "gp: $1" >&2; }
 
@@ -133,13 +134,16 @@ look() {
     return 3
   fi
   if [ "${1-}" = pcap ]; then
-    [ "$(wc -c < "$folder/in")" -le $octets ] || fail "unproved, at most $octets octets can be listed; 'gp --build' makes the proved program, once"
+    [ "$(wc -c < "$folder/in")" -le $octets ] || fail "unproved, at most $octets octets can be taken; 'gp --build' makes the proved program, once"
   elif [ "$(wc -c < "$folder/in")" -gt $octets ] || [ "$(wc -l < "$folder/in")" -gt $lines ]; then
-    fail "unproved, at most $lines lines of together $octets octets can be listed; 'gp --build' makes the proved program, once"
+    fail "unproved, at most $lines lines of together $octets octets can be taken; 'gp --build' makes the proved program, once"
   fi
   say "unproved: this runs the sources as they are, for about half a minute; 'gp --build' makes the proved program, once"
   (cd "$crate" && rt try -- "$@") < "$folder/in" > "$folder/out" 2> "$folder/err"
   status=$?
+  if [ "$(wc -c < "$folder/out")" -ge $report ]; then
+    fail "unproved, a report of fewer than $report octets can be written; 'gp --build' makes the proved program, once"
+  fi
   if [ "$status" != 0 ] && ! grep -q '^gp: ' "$folder/err"; then
     fail "the sources can't be run; 'rt try -- decode' in crates/gp_cli says why"
   fi
@@ -209,7 +213,7 @@ if [ "$input" != "standard input" ]; then
     elif [ -e "$input" ]; then
       say "$input can't be read"
     else
-      say "there is no file $input; a KEY has 32 hexadecimal digits"
+      if [ "$1" = sim ]; then say "there is no file $input"; else say "there is no file $input; a KEY has 32 hexadecimal digits"; fi
     fi
     exit 3
   fi

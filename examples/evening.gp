@@ -1,4 +1,4 @@
-# An evening with two lamps, four switches, and a rule of one's own. Play it with: ./gp sim < examples/evening.gp
+# An evening with two lamps, four switches, and a custom rule. Play it with: ./gp sim < examples/evening.gp
 0 sink hall 0001 0000000000000001 derived 11 - D0D1D2D3D4D5D6D7D8D9DADBDCDDDEDF
 0 sink desk 0002 0000000000000002 group:4002 11 - D0D1D2D3D4D5D6D7D8D9DADBDCDDDEDF
 0 device door 01700001 A1A1A1A1A1A1A1A1A1A1A1A1A1A1A1A1 4 2 02 0
