@@ -36,8 +36,7 @@ needs_toolchain() {
 
 # Whether the proved program is there and no source is newer.
 is_current() {
-  [ -x "$program" ] && [ -z "$(find "$top/crates.txt" "$top"/crates/*/src "$top"/crates/*/specs "$top"/crates/*/proofs \
-    -newer "$program" -type f -print -quit 2> /dev/null)" ]
+  [ -x "$program" ] && [ -z "$(find "$top/crates.txt" "$top"/crates/*/src -newer "$program" -type f -print -quit 2> /dev/null)" ]
 }
 
 # Proves what has changed and links the program. Where nothing but dates has changed, the program gets a new date.
@@ -225,12 +224,15 @@ elif [ "${1-}" = format ] && [ $# = 1 ] && has_other_content gp.disk; then
   fail "gp.disk is there and holds no store, but other content; 'gp format --force' overwrites it"
 fi
 
-if [ -x "$program" ] && ! is_current; then
+current=
+if is_current; then
+  current=yes
+elif [ -x "$program" ]; then
   needs_toolchain
   say "a source is newer than the program; what has changed is proved again"
-  make_program || say "the sources aren't proved as they stand"
+  if make_program; then current=yes; else say "the sources aren't proved as they stand"; fi
 fi
-if is_current; then
+if [ -n "$current" ]; then
   "$program" "$@"
 else
   look "$@"
