@@ -2,4 +2,5 @@ pub mod Capture
 pub mod Kinds
 pub mod Report
 pub mod Script
+pub mod SinkScript
 pub mod Words

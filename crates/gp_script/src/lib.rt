@@ -1,8 +1,8 @@
 //! The lines that the program reads and writes, as values.
 //! To the layer above, a line is read as exactly what its form says, and refused exactly where it has none of
 //! the forms; an entry of a report is printed in its one spelling, and read back from it.
-//! The contracts cite `Capture` for the lines of a capture, `Script` for those of a script and `Report` for those of a
-//! report; `Words` and `Kinds` say what their words are.
+//! The contracts cite `Capture` for the lines of a capture, `Script` for those of a script, `SinkScript` for those of one sink's
+//! life and `Report` for those of a report; `Words` and `Kinds` say what their words are.
 #![tactic(auto)]
 
 mod capacity;
@@ -13,6 +13,7 @@ mod printing;
 mod reason;
 mod report;
 mod script;
+mod sink_script;
 mod spelled;
 mod text;
 mod words;
@@ -26,3 +27,4 @@ pub use report::{
     Cause, CommandFault, Dest, Dropped, Entry, FrameFault, Refusal, Report, RuleAnswer, read_entry,
 };
 pub use script::{Action, Event, RuleForm, SinkMode, read_event};
+pub use sink_script::{SinkAction, SinkEvent, read_sink_event};

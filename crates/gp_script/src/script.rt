@@ -232,7 +232,7 @@ fn frames(keyword: &[u8], words: &mut Words) -> Option<Action>
 }
 
 // What a rule makes of a command.
-fn rule_form(words: &mut Words) -> Option<RuleForm>
+pub(crate) fn rule_form(words: &mut Words) -> Option<RuleForm>
     ensures { Reads spec.rule_form words.old words.new result }
 {
     let keyword = words.next()?;
@@ -256,7 +256,7 @@ fn rule_form(words: &mut Words) -> Option<RuleForm>
 }
 
 // How a sink asks for frames.
-fn sink_mode(words: &mut Words) -> Option<SinkMode>
+pub(crate) fn sink_mode(words: &mut Words) -> Option<SinkMode>
     ensures { Reads (next spec.sink_mode) words.old words.new result }
 {
     let word = words.next()?;
@@ -270,7 +270,7 @@ fn sink_mode(words: &mut Words) -> Option<SinkMode>
 }
 
 // A channel, from 11 to 26.
-fn channel(words: &mut Words) -> Option<u8>
+pub(crate) fn channel(words: &mut Words) -> Option<u8>
     ensures { Reads (next spec.channel) words.old words.new result }
 {
     let number = number_in(words.next()?, 26)?;
