@@ -9,5 +9,6 @@ pub mod Sinks
 pub mod Devices
 pub mod Step
 pub mod Run
+pub mod Life
 pub mod Fresh
 pub mod Properties
