@@ -15,9 +15,9 @@ use Rattle.gp_net.specs.declared.net.Net.{Net}
 use Rattle.gp_net.specs.declared.node.Kind.{Kind}
 use Rattle.gp_net.specs.declared.node.Kind.TheVariants as kinds
 use Rattle.gp_net.specs.declared.node.Node.{Node}
-use Rattle.gp_net.specs.declared.telling.Telling.{Telling}
+use Rattle.gp_telling.specs.declared.telling.Telling.{Telling}
 use Rattle.gp_net.specs.Made as made
-use Rattle.gp_net.specs.Telling.{Said}
+use Rattle.gp_telling.specs.Telling.{Said}
 use Rattle.gp_net.specs.Inside.{Told, ComesTo, IsPlaceOf, HasNone, is_sink_kind, place}
 use Rattle.gp_net.specs.Net.{IsNetOf}
 use Rattle.gp_net.specs.Nodes.{IsKindOf}

@@ -14,55 +14,10 @@ use Rattle.gp_ideal.specs.World.{IsSink, IsDevice, entries}
 use Rattle.gp_sink.specs.Fits.{Fits, IsRow, pairing_in}
 use Rattle.gp_sink.specs.Sink.{SinkState}
 use Rattle.gp_net.specs.declared.node.Kind.TheVariants as kinds
-use Rattle.gp_net.specs.declared.telling.Telling.{Telling}
+use Rattle.gp_telling.specs.declared.telling.Telling.{Telling}
 use Rattle.gp_net.specs.Made.{ListsAtSink}
 use Rattle.gp_net.specs.Nodes.{IsKindOf}
-use Rattle.gp_net.specs.Telling.{Said, listed, listed_row}
-
--- ---- a list of rows, row by row
-
-pub length-listed : (at : ℕ) (table : List Row) → length (listed at table) ≡ length table
-length-listed at [] = refl
-length-listed at (row ∷ others) = ap suc (length-listed (suc at) others)
-
-pub length-said : (node : Option (List ℕ)) (reports : List Report) (old new : Telling) → Said node reports old new → length new.entries.items ≡ length old.entries.items + length reports
-length-said node reports old new h =
-    ap length h.added ∙ length-append old.entries.items (entries old.line node reports) ∙ ap (λ (n : ℕ). length old.entries.items + n) (length-map reports _)
-
-pub said_more : (node : Option (List ℕ)) (first second : List Report) (old between new : Telling) → Said node first old between → Said node second between new → Said node (first ++ second) old new
-said_more node first second old between new a b = record {
-  line = b.line ∙ a.line;
-  added = b.added ∙ ap (λ (items : List _). items ++ entries between.line node second) a.added ∙ append_assoc old.entries.items (entries old.line node first) (entries between.line node second)
-      ∙ ap (λ (line : ℕ). old.entries.items ++ (entries old.line node first ++ entries line node second)) a.line
-      ∙ ap (λ (told : List _). old.entries.items ++ told) (sym (map-append _ first second));
-  room = omega (arith, a.room, b.room);
-}
-
-pub listed_more : (at k : ℕ) (table : List Row) (row : Row) → slice_get table k ≡ Some row → listed at (take (suc k) table) ≡ listed at (take k table) ++ listed_row (at + k) row ∷ []
-listed_more at k [] row e = absurd cc
-listed_more at zero (first ∷ others) row e = let same : first ≡ row = cc in rw (same) (let none : at + 0 ≡ at = omega arith in rw none refl)
-listed_more at (suc k) (first ∷ others) row e =
-    let further : suc at + k ≡ at + suc k = omega arith in
-    ap (λ (reports : List Report). listed_row at first ∷ reports) (listed_more (suc at) k others row e ∙ ap (λ (n : ℕ). listed (suc at) (take k others) ++ listed_row n row ∷ []) further)
-
--- there is room for one row more
-pub list_room : (node : Option (List ℕ)) (k : ℕ) (table : List Row) (first : Report) (old new : Telling) → Said node (first ∷ listed 0 (take k table)) old new → k < length table
-    → length old.entries.items + length table + 1 ≤ vec_capacity old.entries → length new.entries.items < vec_capacity new.entries
-list_room node k table first old new h l room =
-    let said = length-said node (first ∷ listed 0 (take k table)) old new h in
-    let some = length-listed 0 (take k table) in
-    let taken : length (take k table) ≡ k = length-take-le k table (omega arith) in
-    omega (arith, said, some, taken, h.room)
-
--- one row more
-pub listed_on : (node : Option (List ℕ)) (k next : ℕ) (table : List Row) (row : Row) (first : Report) (old between new : Telling) → slice_get table k ≡ Some row → next ≡ k + 1
-    → Said node (first ∷ listed 0 (take k table)) old between → Said node (listed_row k row ∷ []) between new → Said node (first ∷ listed 0 (take next table)) old new
-listed_on node k next table row first old between new e n a b =
-    let none : 0 + k ≡ k = omega arith in
-    let more : next ≡ suc k = omega arith in
-    let all : listed 0 (take next table) ≡ listed 0 (take k table) ++ listed_row k row ∷ [] =
-    ap (λ (m : ℕ). listed 0 (take m table)) more ∙ listed_more 0 k table row e ∙ ap (λ (m : ℕ). listed 0 (take k table) ++ listed_row m row ∷ []) none in
-    subst (λ (reports : List Report). Said node reports old new) (ap (λ (rest : List Report). first ∷ rest) (sym all)) (said_more node (first ∷ listed 0 (take k table)) (listed_row k row ∷ []) old between new a b)
+use Rattle.gp_telling.specs.Telling.{Said, listed, listed_row}
 
 -- ---- the rows of a ledger
 

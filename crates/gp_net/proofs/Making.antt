@@ -25,7 +25,7 @@ use Rattle.gp_net.specs.declared.node.Kind.{Kind}
 use Rattle.gp_net.specs.declared.node.Kind.TheVariants as kinds
 use Rattle.gp_net.specs.declared.node.Node.{Node}
 use Rattle.gp_net.specs.Devices.{ideal_of}
-use Rattle.gp_net.specs.declared.telling.Telling.{Telling}
+use Rattle.gp_telling.specs.declared.telling.Telling.{Telling}
 use Rattle.gp_net.specs.Inside.{ComesOf, Joins, place, is_a_sink, is_a_device, is_at}
 use Rattle.gp_net.specs.Steady.{IsSteadyNet, IsSteady, AreSteady, last_of, IsCalmKind}
 use Rattle.gp_net.specs.Net.{IsNetOf}

@@ -4,7 +4,7 @@ use Rattle.gp_script.specs.declared.report.Entry.{Entry}
 use Rattle.gp_ideal.specs.World as ideal
 use Rattle.gp_net.specs.declared.net.Net.{Net}
 use Rattle.gp_net.specs.declared.node.Node.{Node}
-use Rattle.gp_net.specs.declared.telling.Telling.{Telling}
+use Rattle.gp_telling.specs.declared.telling.Telling.{Telling}
 use Rattle.gp_net.specs.Steady.{AreSteady, IsSteadyNet}
 use Rattle.gp_net.specs.Nodes.{AreNodesOf}
 use Rattle.gp_net.specs.declared.world.World.{World}

@@ -14,7 +14,7 @@ use Rattle.gp_net.specs.declared.net.Net.{Net}
 use Rattle.gp_net.specs.declared.node.Kind.{Kind}
 use Rattle.gp_net.specs.declared.node.Kind.TheVariants as kinds
 use Rattle.gp_net.specs.declared.node.Node.{Node}
-use Rattle.gp_net.specs.declared.telling.Telling.{Telling}
+use Rattle.gp_telling.specs.declared.telling.Telling.{Telling}
 use Rattle.gp_net.specs.Steady.{IsSteadyNet}
 use Rattle.gp_net.specs.Net.{IsNetOf}
 

@@ -4,6 +4,5 @@ pub mod Net
 pub mod Steady
 pub mod World
 pub mod Inside
-pub mod Telling
 pub mod Sinks
 pub mod Made

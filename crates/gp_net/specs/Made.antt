@@ -13,9 +13,9 @@ use Rattle.gp_ideal.specs.Sinks.{verdict_reports, verdict_puts, sink_lists}
 use Rattle.gp_ideal.specs.World as ideal
 use Rattle.gp_ideal.specs.World.{as_sink, as_device}
 use Rattle.gp_net.specs.declared.node.Kind.{Kind}
-use Rattle.gp_net.specs.declared.telling.Telling.{Telling}
+use Rattle.gp_telling.specs.declared.telling.Telling.{Telling}
 use Rattle.gp_net.specs.Nodes.{IsKindOf}
-use Rattle.gp_net.specs.Telling.{Said}
+use Rattle.gp_telling.specs.Telling.{Said}
 
 -- The node stands for that of the ideal event, which has these reports, messages and frames.
 pub record Makes (out : ideal.Out) (node : Kind) (says : List Report) (puts : List Sent) (airs : List (List ℕ)) : Type 0 where

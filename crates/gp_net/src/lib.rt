@@ -9,10 +9,8 @@ mod fault;
 mod net;
 mod node;
 mod sinks;
-mod telling;
-mod words;
 mod world;
 
 pub use fault::NetFault;
-pub use telling::Lines;
+pub use gp_telling::Lines;
 pub use world::World;

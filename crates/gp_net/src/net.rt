@@ -7,7 +7,6 @@ ghost use Rattle.gp_sink.specs.Verdict.{offered};
 ghost use Rattle.gp_ideal.specs.World.{World, entries, put_reports, injected};
 ghost use Rattle.gp_ideal.specs.Step as steps;
 ghost use Rattle.gp_ideal.specs.Sinks.{sink_pairs, sink_rules, sink_announces, sink_lists};
-ghost use Rattle.gp_ideal.specs.Sinks as words;
 ghost use Rattle.gp_ideal.specs.Devices.{device_presses};
 ghost use Rattle.std.specs.List.{count_by, list_any};
 ghost use Rattle.gp_net.specs.Inside.{place, is_a_device, is_a_sink, is_at, IsPlaceOf, HasNone, IsReady, IsAction, IsAtSink, MakesNoNode, NeedsRoom, HasRoom, Joins, ComesTo, ComesOf, Told};
@@ -20,20 +19,17 @@ use crate::device::Device;
 use crate::fault::NetFault;
 use crate::node::{Kind, Node};
 use crate::sinks::{message_of, new_sink};
-use crate::telling::Telling;
 use gp_base::place::put_last;
-use gp_base::{Key, KeyKind, Level, Mode, NoMemory, Octets, Src};
+use gp_base::{NoMemory, Octets, Src};
 use gp_commission::Offer;
-use gp_script::{Action, Cause, Dropped, LineReason, Name, Report, RuleForm, SinkMode};
+use gp_script::{Action, Cause, Dropped, LineReason, Name, Report};
 use gp_sink::{Config, Verdict};
-use gp_translate::{Rule, Target};
+use gp_telling::{Telling, config_of, offer_of, rule_of};
+use gp_translate::Rule;
 use std::alloc::Global;
 
 /// The most sinks, and the most devices.
 const MOST: usize = 64;
-
-/// The link key where a script names none.
-const DEFAULT_LINK: Key = Key(*b"ZigBeeAlliance09");
 
 /// The frames on the air, how many messages were sent, and the nodes under their names.
 #[derive(Drop)]
@@ -496,83 +492,5 @@ impl Net {
             Action::Table { sink } => self.list(telling, reading, sink),
             _ => unreachable!(),
         }
-    }
-}
-
-// What a script pairs.
-fn offer_of(source: Src, key: Key, kind: KeyKind, level: Level, device: u8, counter: u32) -> Offer
-    ensures { result ≡ record { src = source; key = key; kind = kind; level = level; device = device; counter = counter } }
-{
-    Offer {
-        src: source,
-        key,
-        kind,
-        level,
-        device,
-        counter,
-    }
-}
-
-// A rule of a script.
-fn rule_of(source: Option<Src>, command: u8, endpoint: u8, form: &RuleForm) -> Rule
-    ensures { result ≡ words.rule_of source command endpoint form.now }
-{
-    Rule {
-        source,
-        command,
-        endpoint,
-        target: target_of(form),
-    }
-}
-
-// How a script sets a sink up.
-fn config_of(
-    address: u16,
-    ieee: u64,
-    mode: SinkMode,
-    channel: u8,
-    link: &Option<Key>,
-    shared: &Key,
-) -> Config
-    ensures { result ≡ steps.config_of address ieee mode channel link.now shared.now }
-{
-    let (mode, group) = match mode {
-        SinkMode::Derived => (Mode::Derived, 0),
-        SinkMode::Unicast => (Mode::Unicast, 0),
-        SinkMode::Group(group) => (Mode::Commissioned, group),
-    };
-    Config {
-        address,
-        ieee,
-        mode,
-        group,
-        channel,
-        link: match link {
-            Some(link) => *link,
-            None => DEFAULT_LINK,
-        },
-        shared: *shared,
-    }
-}
-
-// What a rule of a script makes of a command.
-fn target_of(form: &RuleForm) -> Target
-    ensures { result ≡ words.target_of form.now }
-{
-    match form {
-        RuleForm::Table => Target::Parsed,
-        RuleForm::Copy { cluster, command } => Target::Copy {
-            cluster: *cluster,
-            zcl: *command,
-        },
-        RuleForm::Fixed {
-            cluster,
-            command,
-            payload,
-        } => Target::Fixed {
-            cluster: *cluster,
-            zcl: *command,
-            payload: payload.copy(),
-        },
     }
 }

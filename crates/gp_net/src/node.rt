@@ -13,13 +13,13 @@ ghost use Rattle.gp_net.specs.Nodes.{IsKindOf};
 
 use crate::device::Device;
 use crate::sinks;
-use crate::telling::Telling;
 use gp_base::{Octets, Src};
 use gp_cluster::Sent;
 use gp_commission::Offer;
 use gp_disk::MemoryDisk;
 use gp_script::{Name, RuleAnswer};
 use gp_sink::{Sink, Verdict};
+use gp_telling::Telling;
 use gp_translate::Rule;
 
 /// What a node is.

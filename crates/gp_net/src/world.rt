@@ -9,8 +9,8 @@ ghost use Rattle.gp_net.specs.Net.{IsNetOf};
 
 use crate::fault::NetFault;
 use crate::net::Net;
-use crate::telling::{Lines, Telling};
 use gp_script::{Action, Event};
+use gp_telling::{Lines, Telling};
 use std::alloc::Global;
 
 /// Room for the entries of a line that lists rows, and of any other.

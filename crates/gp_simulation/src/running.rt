@@ -10,7 +10,7 @@ use gp_lines::{Status, run_lines};
 use gp_net::World;
 use std::alloc::Global;
 
-/// Plays the lines of a script from an empty world, and writes what is reported of each before the next is read. It answers how that
+/// Plays the lines of a script from an empty world, and writes what is reported of each before the next is played. It answers how that
 /// ended, and gives the world.
 ///
 /// It is Done where the script was read to its end. `BadLine` has the first line that is refused and why: Form where it has no

@@ -139,7 +139,8 @@ impl<D: Disk> Sink<D> {
     }
 
     /// Pairs a device with what it offers, the sink's mode and the group of that mode (Zigbee PRO Green Power,
-    /// A.3.3.2.2). The row keeps the greater floor. `Full` comes exactly where a new pair of SrcID and key meets 1,024
+    /// A.3.3.2.2). The row keeps the greater floor. `Refused` is BadSource for a SrcID that can't be paired, then
+    /// CounterEnd for the greatest counter; behind both `Full` comes exactly where a new pair of SrcID and key meets 1,024
     /// rows. The faults are those of `hear`.
     pub fn pair(&mut self, offer: &Offer) -> Result<Verdict, SinkFault>
         ensures comes { (ledger : List LedgerChange) → Fits self.old.store.rows ledger

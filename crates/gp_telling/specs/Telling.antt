@@ -7,7 +7,7 @@ use Rattle.gp_script.specs.declared.report.Report.TheVariants as reports
 use Rattle.gp_ideal.specs.World.{entries}
 use Rattle.gp_sink.specs.declared.verdict.Verdict.{Verdict}
 use Rattle.gp_sink.specs.declared.verdict.Verdict.TheVariants.{Acted}
-use Rattle.gp_net.specs.declared.telling.Telling.{Telling}
+use Rattle.gp_telling.specs.declared.telling.Telling.{Telling}
 
 -- these reports of a node were added, and there is as much room as before
 pub record Said (node : Option (List ℕ)) (reports : List Report) (old new : Telling) : Type 0 where

@@ -1,8 +1,8 @@
 use Rattle.std.proofs.Common.{◌+◌, ◌∷◌, [], Some, arith, refl, subst}
 use Rattle.gp_script.specs.declared.report.Report.{Report}
-use Rattle.gp_net.specs.Telling.{Said}
-use Rattle.gp_net.proofs.Listing.{list_room, listed_on}
-use Rattle.gp_net.proofs.telling.Telling.list.Goals as goal
+use Rattle.gp_telling.specs.Telling.{Said}
+use Rattle.gp_telling.proofs.Listing.{list_room, listed_on}
+use Rattle.gp_telling.proofs.telling.Telling.list.Goals as goal
 
 pub say-requires-in-loop-at : goal.say-requires-in-loop-at
 say-requires-in-loop-at c = list_room (Some c.args.name.now) c.loop-at.at c.args.table.now _ c.args.self.now c.loop-at.self c.loop-at.invariant (omega arith) (omega arith)

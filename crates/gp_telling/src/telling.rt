@@ -5,7 +5,7 @@ ghost use Rattle.gp_ideal.specs.Sinks as sinks;
 ghost use Rattle.gp_ideal.specs.World as ideal;
 ghost use Rattle.gp_sink.specs.Verdict.{verdict_of};
 ghost use Rattle.gp_sink.specs.Sink.{IsMessage};
-ghost use Rattle.gp_net.specs.Telling.{Said, HasNoActs, listed, listed_row};
+ghost use Rattle.gp_telling.specs.Telling.{Said, HasNoActs, listed, listed_row};
 ghost use Rattle.gp_script.specs.declared.report.Report.TheVariants.{Rows};
 
 use crate::words::{cause_of, refusal_of};

@@ -1,0 +1,2 @@
+//! The life of one sink over a disk.
+#![tactic(auto)]
