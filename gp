@@ -34,9 +34,10 @@ needs_toolchain() {
   command -v rt > /dev/null || fail "the toolchain's command rt isn't there"
 }
 
-# Whether the proved program is there and no source is newer.
+# Whether the proved program is there, and neither a source nor a definition is newer. What a proof file says can't change what the
+# program was proved to do.
 is_current() {
-  [ -x "$program" ] && [ -z "$(find "$top/crates.txt" "$top"/crates/*/src -newer "$program" -type f -print -quit 2> /dev/null)" ]
+  [ -x "$program" ] && [ -z "$(find "$top/crates.txt" "$top"/crates/*/src "$top"/crates/*/specs -newer "$program" -type f -print -quit 2> /dev/null)" ]
 }
 
 # Proves what has changed and links the program. Where nothing but dates has changed, the program gets a new date.
