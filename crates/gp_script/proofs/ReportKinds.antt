@@ -3,8 +3,8 @@ use Rattle.std.proofs.Common.{◌≡◌, ℕ, Bool, true, false, List, [], ◌�
 use Rattle.std.specs.Prelude.{codes}
 use Rattle.gp_script.specs.Kinds
 use Rattle.gp_script.specs.Kinds.{Kind, upper, source, octets, number_up_to, flag, key_kind, level, mode, or_word, name}
-use Rattle.gp_script.specs.Script.{number32, number64}
-use Rattle.gp_script.specs.Report.{number16, octet, address16, dest, refusal, rule_answer, frame_fault, command_fault, plain_cause, refusals, refusal_text, rule_answers, rule_text, cause_text, plain_causes, frame_text, frame_faults, command_text, command_faults}
+use Rattle.gp_script.specs.Script.{number16, number32, number64}
+use Rattle.gp_script.specs.Report.{octet, address16, dest, refusal, rule_answer, frame_fault, command_fault, plain_cause, refusals, refusal_text, rule_answers, rule_text, cause_text, plain_causes, frame_text, frame_faults, command_text, command_faults}
 use Rattle.gp_script.specs.declared.report.Refusal.{Refusal}
 use Rattle.gp_script.specs.declared.report.Refusal.TheVariants as refused
 use Rattle.gp_script.specs.declared.report.RuleAnswer.{RuleAnswer}

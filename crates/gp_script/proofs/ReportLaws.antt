@@ -9,11 +9,11 @@ use Rattle.gp_base.specs.Table.{let_else}
 use Rattle.gp_script.specs.Kinds
 use Rattle.gp_script.specs.Kinds.{Parse, Printed, texts, all_fit, keyed, nothing, one, two, three, five, nine, upper, source, hex, octets, number_up_to, flag, key_kind, level, mode, or_word, name, applied, whole}
 use Rattle.gp_script.specs.Words.{words, line_of, is_done}
-use Rattle.gp_script.specs.Script.{tested_in, number32, number64}
-use Rattle.gp_script.specs.Report.{entry_of, text_of, has_line, entry, entry_words, is_named, report_words, dropped_words, verdict, sent, shown, answered, dropped, plain, number16, octet, address16, dest, refusal, rule_answer, frame_fault, command_fault, plain_cause}
+use Rattle.gp_script.specs.Script.{tested_in, number16, number32, number64}
+use Rattle.gp_script.specs.Report.{entry_of, text_of, has_line, entry, entry_words, is_named, report_words, dropped_words, verdict, sent, shown, answered, powered, stood, dropped, plain, octet, address16, dest, refusal, rule_answer, frame_fault, command_fault, plain_cause}
 use Rattle.gp_script.specs.declared.report.Entry.{Entry}
 use Rattle.gp_script.specs.declared.report.Report.{Report}
-use Rattle.gp_script.specs.declared.report.Report.TheVariants.{Paired, Unpaired, Acted, Refused, Drop, Put, Air, Zcl, Rule, Rows, Row, Closed, End}
+use Rattle.gp_script.specs.declared.report.Report.TheVariants.{Paired, Unpaired, Acted, Refused, Drop, Put, Air, Zcl, Rule, Rows, Row, Closed, End, Armed, Cut, Halted, Off, Up, Dark, Running}
 use Rattle.gp_script.specs.declared.report.Dropped.{Dropped}
 use Rattle.gp_script.specs.declared.report.Cause.{Cause}
 use Rattle.gp_script.specs.declared.report.Dropped.TheVariants.{Malformed, CommandIll, Stale, Plain}
@@ -50,11 +50,26 @@ dropped_back = keyed_back _ Drops (λ k.
     (line_back k (codes "Stale") (one number32 Stale) _ Fact (one_back number32_is _ _ (λ floor rest fits. (refl, fits)))
     (plain_back k))))
 
+stood_back : (k : List ℕ) → Back (stood k) (Tells k)
+stood_back k =
+    line_back k (codes "armed") (nothing Armed) _ Tells (nothing_back _ _ (λ rest. (refl, refl)))
+    (line_back k (codes "dark") (nothing Dark) _ Tells (nothing_back _ _ (λ rest. (refl, refl)))
+    (line_back k (codes "running") (nothing Running) _ Tells (nothing_back _ _ (λ rest. (refl, refl)))
+    (last_back k _)))
+
+powered_back : (k : List ℕ) → Back (powered k) (Tells k)
+powered_back k =
+    line_back k (codes "cut") (nothing Cut) _ Tells (nothing_back _ _ (λ rest. (refl, refl)))
+    (line_back k (codes "halted") (nothing Halted) _ Tells (nothing_back _ _ (λ rest. (refl, refl)))
+    (line_back k (codes "off") (nothing Off) _ Tells (nothing_back _ _ (λ rest. (refl, refl)))
+    (line_back k (codes "up") (one number16 Up) _ Tells (one_back number16_is _ _ (λ count rest fits. (refl, fits)))
+    (stood_back k))))
+
 answered_back : (k : List ℕ) → Back (answered k) (Tells k)
 answered_back k =
     line_back k (codes "closed") (nothing Closed) _ Tells (nothing_back _ _ (λ rest. (refl, refl)))
     (line_back k (codes "end") (nothing End) _ Tells (nothing_back _ _ (λ rest. (refl, refl)))
-    (last_back k _))
+    (powered_back k))
 
 shown_back : (k : List ℕ) → Back (shown k) (Tells k)
 shown_back k =
@@ -117,6 +132,13 @@ report_again (Rows count) rest fits = one_again number16_is _ count rest fits
 report_again (Row row src kind lvl way group device live floor) rest fits = nine_again number16_is source_is key_kind_is level_is mode_is address_is octet_is flag_is number32_is _ row src kind lvl way group device live floor rest fits
 report_again Closed rest fits = (refl, refl)
 report_again End rest fits = (refl, refl)
+report_again Armed rest fits = (refl, refl)
+report_again Cut rest fits = (refl, refl)
+report_again Halted rest fits = (refl, refl)
+report_again Off rest fits = (refl, refl)
+report_again (Up count) rest fits = one_again number16_is _ count rest fits
+report_again Dark rest fits = (refl, refl)
+report_again Running rest fits = (refl, refl)
 
 -- ---- the whole line
 

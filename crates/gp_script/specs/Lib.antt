@@ -1,4 +1,5 @@
 pub mod Capture
+pub mod Inside
 pub mod Kinds
 pub mod Report
 pub mod Script

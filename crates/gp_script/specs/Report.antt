@@ -5,10 +5,10 @@ use Rattle.std.specs.Str.{bytes_eq}
 use Rattle.std.specs.Int.{w8, w16}
 use Rattle.gp_script.specs.Words.{line_of}
 use Rattle.gp_script.specs.Kinds.{Parse, Kind, nothing, one, two, three, five, nine, applied, by_keyword, no_more, keyed, whole, or_word, upper, upper_in, among, flag, key_kind, level, mode, name, source, hex, hex_in, octets, number_up_to, Printed, by, word, texts, all_fit}
-use Rattle.gp_script.specs.Script.{tested_in, number32, number64}
+use Rattle.gp_script.specs.Script.{tested_in, number16, number32, number64}
 use Rattle.gp_script.specs.declared.report.Entry.{Entry}
 use Rattle.gp_script.specs.declared.report.Report.{Report}
-use Rattle.gp_script.specs.declared.report.Report.TheVariants.{Paired, Unpaired, Acted, Refused, Drop, Put, Air, Zcl, Rule, Rows, Row, Closed, End}
+use Rattle.gp_script.specs.declared.report.Report.TheVariants.{Paired, Unpaired, Acted, Refused, Drop, Put, Air, Zcl, Rule, Rows, Row, Closed, End, Armed, Cut, Halted, Off, Up, Dark, Running}
 use Rattle.gp_script.specs.declared.report.Dest.{Dest}
 use Rattle.gp_script.specs.declared.report.Dest.TheVariants as to
 use Rattle.gp_script.specs.declared.report.Refusal.{Refusal}
@@ -25,9 +25,6 @@ use Rattle.gp_script.specs.declared.report.Dropped.{Dropped}
 use Rattle.gp_script.specs.declared.report.Dropped.TheVariants.{Malformed, CommandIll, Stale, Plain}
 
 -- ---- kinds of words
-
-abbrev pub number16 : Kind ℕ
-number16 = number_up_to 65535
 
 abbrev pub octet : Kind ℕ
 octet = upper (hex w8)
@@ -145,12 +142,29 @@ dropped = keyed (by_keyword (
     ∷ (codes "Stale", one number32 Stale)
     ∷ []) plain)
 
+-- what a line finds of a sink's power
+abbrev pub stood : List ℕ → Parse Report
+stood = by_keyword (
+    (codes "armed", nothing Armed)
+    ∷ (codes "dark", nothing Dark)
+    ∷ (codes "running", nothing Running)
+    ∷ []) no_more
+
+-- what becomes of a sink's power
+abbrev pub powered : List ℕ → Parse Report
+powered = by_keyword (
+    (codes "cut", nothing Cut)
+    ∷ (codes "halted", nothing Halted)
+    ∷ (codes "off", nothing Off)
+    ∷ (codes "up", one number16 Up)
+    ∷ []) stood
+
 -- what a device answers
 abbrev pub answered : List ℕ → Parse Report
 answered = by_keyword (
     (codes "closed", nothing Closed)
     ∷ (codes "end", nothing End)
-    ∷ []) no_more
+    ∷ []) powered
 
 -- what a sink says of its rules and rows
 abbrev pub shown : List ℕ → Parse Report
@@ -212,6 +226,13 @@ report_words (Rows count) = word (codes "rows") ∷ by number16 count ∷ []
 report_words (Row row src kind lvl way group device live floor) = word (codes "row") ∷ by number16 row ∷ by source src ∷ by key_kind kind ∷ by level lvl ∷ by mode way ∷ by address16 group ∷ by octet device ∷ by flag live ∷ by number32 floor ∷ []
 report_words Closed = word (codes "closed") ∷ []
 report_words End = word (codes "end") ∷ []
+report_words Armed = word (codes "armed") ∷ []
+report_words Cut = word (codes "cut") ∷ []
+report_words Halted = word (codes "halted") ∷ []
+report_words Off = word (codes "off") ∷ []
+report_words (Up count) = word (codes "up") ∷ by number16 count ∷ []
+report_words Dark = word (codes "dark") ∷ []
+report_words Running = word (codes "running") ∷ []
 
 abbrev pub entry_words : Entry → List Printed
 entry_words e = by number64 e.line ∷ by (or_word (codes "-") name) e.node ∷ report_words e.report

@@ -4,9 +4,10 @@ use Rattle.std.specs.Option.{option_map}
 use Rattle.std.specs.Str.{bytes_eq}
 use Rattle.std.specs.Int.{w8, w16, w64, to_be_bytes}
 use Rattle.hex.specs.Hex.{encode_upper}
-use Rattle.gp_script.specs.Kinds.{Parse, Kind, nothing, one, two, three, four, seven, applied, by_keyword, no_more, keyed, whole, or_word, name, source, key, key_kind, level, hex, hex_in, octets, number_up_to}
+use Rattle.gp_base.specs.Table.{let_else}
+use Rattle.gp_script.specs.Kinds.{Parse, Kind, next, nothing, one, two, three, four, seven, applied, by_keyword, no_more, keyed, whole, or_word, name, source, key, key_kind, level, hex, hex_in, octets, number_up_to}
 use Rattle.gp_script.specs.declared.script.Action.{Action}
-use Rattle.gp_script.specs.declared.script.Action.TheVariants.{Sink, Device, Rule, Pair, Press, Inject, Hear, Announce, Table}
+use Rattle.gp_script.specs.declared.script.Action.TheVariants.{Sink, Device, Rule, Pair, Press, Inject, Hear, Announce, Table, Cut, Fault, On, OnCut, Off}
 use Rattle.gp_script.specs.declared.script.RuleForm.{RuleForm}
 use Rattle.gp_script.specs.declared.script.RuleForm.TheVariants as form
 use Rattle.gp_script.specs.declared.script.Event.{Event}
@@ -53,11 +54,22 @@ sink_mode_fits (Group address) = nat_lt address 65536
 abbrev pub sink_mode : Kind SinkMode
 sink_mode = record { read = sink_mode_in; text = sink_mode_text; fits = sink_mode_fits }
 
+abbrev pub number16 : Kind ℕ
+number16 = number_up_to 65535
+
 abbrev pub number32 : Kind ℕ
 number32 = number_up_to 4294967295
 
 abbrev pub number64 : Kind ℕ
 number64 = number_up_to 18446744073709551615
+
+-- the number of a commit from now on, from 1 to 1,000,000
+abbrev pub commit : Kind ℕ
+commit = where_true (λ number. nat_le 1 number) (number_up_to 1000000)
+
+-- one of the five ways in which a disk crashes
+abbrev pub way : Kind ℕ
+way = number_up_to 4
 
 -- ---- the lines, by their keywords
 
@@ -69,13 +81,27 @@ rule_form = keyed (by_keyword (
     ∷ (codes "fixed", three (hex w16) (hex w8) octets form.Fixed)
     ∷ []) no_more)
 
+-- what follows the name of a sink that is switched on: nothing, or a cut of its power
+abbrev pub switched_on : List ℕ → Parse Action
+switched_on sink [] = Some (On sink, [])
+switched_on sink (word ∷ words) = if bytes_eq word (codes "cut") then two number16 way (λ calls by. OnCut sink calls by) words else None
+
+-- the lines about a sink's power
+abbrev pub power : List ℕ → Parse Action
+power = by_keyword (
+    (codes "cut", four name commit number16 way Cut)
+    ∷ (codes "fault", three name commit number16 Fault)
+    ∷ (codes "on", λ words. let_else (next name words) None (λ read. switched_on read.0 read.1))
+    ∷ (codes "off", one name Off)
+    ∷ []) no_more
+
 -- the lines about frames
 abbrev pub frames : List ℕ → Parse Action
 frames = by_keyword (
     (codes "press", two name command Press)
     ∷ (codes "inject", one octets Inject)
     ∷ (codes "hear", three number64 name (hex w8) Hear)
-    ∷ []) no_more
+    ∷ []) power
 
 -- the lines about a sink's rules and pairings
 abbrev pub pairings : List ℕ → Parse Action

@@ -15,6 +15,7 @@ mod report;
 mod script;
 mod sink_script;
 mod spelled;
+mod standing;
 mod text;
 mod words;
 

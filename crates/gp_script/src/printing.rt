@@ -5,6 +5,7 @@ ghost use Rattle.gp_script.specs.Kinds as kinds;
 ghost use Rattle.gp_script.specs.Kinds.{texts, or_word_text};
 ghost use Rattle.gp_script.specs.Words.{added};
 ghost use Rattle.gp_script.specs.Report as spec;
+ghost use Rattle.gp_script.specs.Inside.{IsOfPower};
 
 use crate::report::{Dest, Dropped, Entry, Report};
 use crate::spelled::Spelled;
@@ -161,6 +162,27 @@ fn put_report(text: &mut Vec<u8>, report: &Report) -> Result<(), AllocError>
         }
         Report::Closed => put_word(text, "closed"),
         Report::End => put_word(text, "end"),
+        other => put_power(text, other),
+    }
+}
+
+// A report of a sink's power.
+fn put_power(text: &mut Vec<u8>, report: &Report) -> Result<(), AllocError>
+    requires { IsOfPower report.now }
+    ensures { OnOk result (text.new.items ≡ added text.old.items (texts (spec.report_words report.now))) }
+{
+    match report {
+        Report::Armed => put_word(text, "armed"),
+        Report::Cut => put_word(text, "cut"),
+        Report::Halted => put_word(text, "halted"),
+        Report::Off => put_word(text, "off"),
+        Report::Up { rows } => {
+            put_word(text, "up")?;
+            put_number(text, u64::from(*rows))
+        }
+        Report::Dark => put_word(text, "dark"),
+        Report::Running => put_word(text, "running"),
+        _ => unreachable!(),
     }
 }
 

@@ -13,6 +13,7 @@ use crate::kinds::{
 };
 use crate::name::Name;
 use crate::spelled::{Spelled, among};
+use crate::standing::powered;
 use crate::words::Words;
 use gp_base::{KeyKind, Level, Mode, Octets, Src};
 
@@ -174,6 +175,22 @@ pub enum Report {
     Closed,
     /// `end`: a device has no counter left.
     End,
+    /// `armed`: a cut or a fault is armed.
+    Armed,
+    /// `cut`: the power of a sink was cut.
+    Cut,
+    /// `halted`: the disk of a sink has failed.
+    Halted,
+    /// `off`: a sink was switched off.
+    Off,
+    /// `up ROWS`: a sink was switched on, and holds so many rows.
+    Up {
+        rows: u16,
+    },
+    /// `dark`: a sink has no power.
+    Dark,
+    /// `running`: a sink has its power already.
+    Running,
 }
 
 /// A line of a report.
@@ -324,11 +341,11 @@ fn shown(keyword: &[u8], words: &mut Words) -> Option<Report>
             floor: number32(words)?,
         });
     }
-    answered(keyword)
+    answered(keyword, words)
 }
 
-fn answered(keyword: &[u8]) -> Option<Report>
-    ensures { (words : _) → Reads (spec.answered keyword.now) words words result }
+fn answered(keyword: &[u8], words: &mut Words) -> Option<Report>
+    ensures { Reads (spec.answered keyword.now) words.old words.new result }
 {
     if keyword == b"closed".as_slice() {
         return Some(Report::Closed);
@@ -336,7 +353,7 @@ fn answered(keyword: &[u8]) -> Option<Report>
     if keyword == b"end".as_slice() {
         return Some(Report::End);
     }
-    None
+    powered(keyword, words)
 }
 
 fn read_dropped(words: &mut Words) -> Option<Dropped>

@@ -8,7 +8,7 @@ ghost use Rattle.gp_script.specs.Script as spec;
 use crate::capture::NotALine;
 use crate::kinds::{
     any_source, hex8, hex16, hex16_in, hex64, key, key_kind, key_or_dash, level, name, number_in,
-    number32, number64, octets, source,
+    number16, number32, number64, octets, source,
 };
 use crate::name::Name;
 use crate::words::Words;
@@ -106,6 +106,33 @@ pub enum Action {
     },
     /// `table SINK`: lists the rows.
     Table {
+        sink: Name,
+    },
+    /// `cut SINK K P W`: the power is cut in the K-th commit from now on, once P of its device calls have returned.
+    Cut {
+        sink: Name,
+        commit: u32,
+        calls: u16,
+        way: u8,
+    },
+    /// `fault SINK K P`: device call min(P + 1, 4) of the K-th commit from now on fails.
+    Fault {
+        sink: Name,
+        commit: u32,
+        calls: u16,
+    },
+    /// `on SINK`: switches the power on.
+    On {
+        sink: Name,
+    },
+    /// `on SINK cut P W`: switches the power on, and cuts it once P device calls of the recovery have returned.
+    OnCut {
+        sink: Name,
+        calls: u16,
+        way: u8,
+    },
+    /// `off SINK`: switches the power off.
+    Off {
         sink: Name,
     },
 }
@@ -228,7 +255,54 @@ fn frames(keyword: &[u8], words: &mut Words) -> Option<Action>
             link: hex8(words)?,
         });
     }
+    power(keyword, words)
+}
+
+fn power(keyword: &[u8], words: &mut Words) -> Option<Action>
+    ensures { Reads (spec.power keyword.now) words.old words.new result }
+{
+    if keyword == b"cut".as_slice() {
+        return Some(Action::Cut {
+            sink: name(words)?,
+            commit: commit(words)?,
+            calls: number16(words)?,
+            way: way(words)?,
+        });
+    }
+    if keyword == b"fault".as_slice() {
+        return Some(Action::Fault {
+            sink: name(words)?,
+            commit: commit(words)?,
+            calls: number16(words)?,
+        });
+    }
+    if keyword == b"on".as_slice() {
+        let sink = name(words)?;
+        return switched_on(sink, words);
+    }
+    if keyword == b"off".as_slice() {
+        return Some(Action::Off { sink: name(words)? });
+    }
     None
+}
+
+// What follows the name of a sink that is switched on.
+fn switched_on(sink: Name, words: &mut Words) -> Option<Action>
+    ensures { Reads (spec.switched_on sink) words.old words.new result }
+{
+    match words.next() {
+        None => Some(Action::On { sink }),
+        Some(word) => {
+            if word == b"cut".as_slice() {
+                return Some(Action::OnCut {
+                    sink,
+                    calls: number16(words)?,
+                    way: way(words)?,
+                });
+            }
+            None
+        }
+    }
 }
 
 // What a rule makes of a command.
@@ -278,6 +352,24 @@ pub(crate) fn channel(words: &mut Words) -> Option<u8>
         return None;
     }
     Some(number as u8)
+}
+
+// The number of a commit, from 1 to 1,000,000.
+fn commit(words: &mut Words) -> Option<u32>
+    ensures { Reads (next spec.commit) words.old words.new result }
+{
+    let number = number_in(words.next()?, 1000000)?;
+    if number < 1 {
+        return None;
+    }
+    Some(number as u32)
+}
+
+// A way in which a disk crashes, from 0 to 4.
+fn way(words: &mut Words) -> Option<u8>
+    ensures { Reads (next spec.way) words.old words.new result }
+{
+    Some(number_in(words.next()?, 4)? as u8)
 }
 
 // From 1 to 104 octets.
