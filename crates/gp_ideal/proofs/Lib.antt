@@ -1,17 +1,5 @@
 pub mod Pairs
 pub mod Ledgers
 pub mod Tests
-pub mod Moving
-pub mod Naming
 pub mod Passing
-pub mod Rulings
-pub mod Stepping
-pub mod Running
 pub mod Freshness
-pub mod Acting
-pub mod Verifying
-pub mod Octets
-pub mod Asking
-pub mod Airing
-pub mod EveryRun
-pub mod Pressing

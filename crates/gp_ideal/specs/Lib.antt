@@ -4,11 +4,4 @@ pub mod Faults
 pub mod Verdict
 pub mod Heard
 pub mod Paired
-pub mod World
-pub mod Sinks
-pub mod Devices
-pub mod Step
-pub mod Run
-pub mod Life
 pub mod Fresh
-pub mod Properties

@@ -1,8 +1,7 @@
-//! The ideal network: what sinks, devices and the air between them do, as definitions alone.
-//! Its source declares the plain data that the definitions share with the program: what a sink remembers is a ledger of changes.
-//! Its answer to octets is a ruling by that ledger, and a line of a script is one step of a world of such sinks.
-//! Contracts above cite `Ledger`, `Heard` and `Paired` for one sink, `Step` and `Run` for the network, and `Properties` for what
-//! holds of every run.
+//! The ideal sink: what a sink remembers and what it answers, as definitions alone.
+//! Its source declares the plain data that the definitions share with the program: what a sink remembers is a ledger of changes,
+//! and its answer to octets or to an offer is a ruling by that ledger.
+//! Contracts above cite `Ledger`, `Heard` and `Paired`, and `Fresh` for the frames on which a sink has to act.
 #![tactic(auto)]
 
 mod config;

@@ -1,5 +1,0 @@
-pub mod Reported
-pub mod ActsOnce
-pub mod TwoRules
-pub mod Unpairs
-pub mod PairsAgain

@@ -1,0 +1,15 @@
+pub mod Moving
+pub mod Naming
+pub mod Rulings
+pub mod Stepping
+pub mod Steady
+pub mod Powering
+pub mod Running
+pub mod Acting
+pub mod Verifying
+pub mod Octets
+pub mod Asking
+pub mod Airing
+pub mod Keeping
+pub mod EveryRun
+pub mod Pressing
