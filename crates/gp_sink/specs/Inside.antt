@@ -1,6 +1,6 @@
 -- What private functions say: of the current row of a SrcID, of a verdict and its change, and of numbers that fit their fields.
 -- No public clause cites this file.
-use Rattle.std.specs.Prelude.{◌≡◌, ◌≤◌, ◌<◌, ◌^◌, ℕ, List, length, slice_get, Option, Some, IfSome}
+use Rattle.std.specs.Prelude.{◌≡◌, ◌<◌, ◌^◌, ℕ, List, length, slice_get, Option, Some, IfSome}
 use Rattle.gp_base.specs.Field.{IsOctets}
 use Rattle.gp_base.specs.declared.identity.Src.{Src}
 use Rattle.gp_rows.specs.declared.row.Row.{Row}

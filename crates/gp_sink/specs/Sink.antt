@@ -8,6 +8,7 @@ use Rattle.gp_translate.specs.declared.rule.Rule.{Rule}
 use Rattle.gp_rows.specs.declared.row.Row.{Row}
 use Rattle.gp_store.specs.declared.fault.CommitFault.{CommitFault}
 use Rattle.gp_store.specs.declared.fault.CommitFault.TheVariants as commits
+use Rattle.gp_store.specs.Image.{HasLast}
 use Rattle.gp_store.specs.State.{State}
 use Rattle.gp_store.specs.Commit.{Commits, Stands, is_made}
 use Rattle.gp_ideal.specs.declared.config.Config.{Config}
@@ -96,11 +97,13 @@ Comes disk ledger ruling old new result =
 
 -- ---- what an answer says besides
 
--- Whatever the rows stand for: a call changes the store alone, and the last generation by one at most; and where nothing is to
--- fail on the disk, nothing fails, and that stays so.
+-- Whatever the rows stand for: a call changes the store alone, and the last generation by one at most; where the disk has failed,
+-- a crash at some moment since the `begin` leaves no last generation of more than two above the one before; and where nothing is
+-- to fail on the disk, nothing fails, and that stays so.
 pub record Goes {D T : Type 0} (disk : Ghosts D) (old new : SinkState D) (result : Result T SinkFault) : Type 0 where
   pub same : new ≡ record old { store = new.store }
   pub last : new.store.last ≤ old.store.last + 1
+  pub left : result ≡ Err DiskFault → (c : List ℕ) (n : ℕ) → disk.left new.store.disk c → HasLast c n → n ≤ old.store.last + 2
   pub calm : disk.fuse old.store.disk ≡ Running Unarmed → disk.fuse new.store.disk ≡ Running Unarmed
   pub good : disk.fuse old.store.disk ≡ Running Unarmed → result ≡ Err DiskFault → ⊥
 

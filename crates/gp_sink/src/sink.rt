@@ -237,6 +237,20 @@ impl<D: Disk> Sink<D> {
         } = self;
         store.into_disk()
     }
+
+    /// How it is set up, its rules and its disk.
+    pub fn into_parts(self) -> (Config, Rules, D)
+        ensures config { result.0 ≡ self.config }
+        ensures rules { result.1 ≡ self.rules }
+        ensures disk { result.2 ≡ self.store.disk }
+    {
+        let Sink {
+            config,
+            rules,
+            store,
+        } = self;
+        (config, rules, store.into_disk())
+    }
 }
 
 impl Sink<MemoryDisk> {
