@@ -1,0 +1,13 @@
+pub mod Fuses
+pub mod Alike
+pub mod Twice
+pub mod Deciding
+pub mod Crashing
+pub mod Standing
+pub mod Committing
+pub mod Answering
+pub mod Few
+pub mod Starting
+pub mod Recovering
+pub mod Switching
+pub mod Quiet

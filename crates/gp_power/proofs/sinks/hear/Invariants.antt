@@ -1,0 +1,4 @@
+use Rattle.gp_power.proofs.sinks.hear.Given as goal
+
+abbrev pub ghosts-hear_counted : goal.ghosts-hear_counted
+ghosts-hear_counted a = record { name = a.blank.name; parts = a.blank.parts }
