@@ -5,7 +5,7 @@ use Rattle.std.proofs.lemmas.List.{length-map, length-take-le, map-append}
 use Rattle.gp_rows.specs.declared.row.Row.{Row}
 use Rattle.gp_script.specs.declared.report.Report.{Report}
 use Rattle.gp_script.specs.declared.report.Report.TheVariants.{Rows}
-use Rattle.gp_ideal.specs.World.{entries}
+use Rattle.gp_world.specs.World.{entries}
 use Rattle.gp_telling.specs.declared.telling.Telling.{Telling}
 use Rattle.gp_telling.specs.Telling.{Said, listed, listed_row}
 

@@ -4,7 +4,7 @@ use Rattle.std.specs.Prelude.{◌≡◌, ◌≤◌, ℕ, suc, List, [], ◌∷�
 use Rattle.gp_rows.specs.declared.row.Row.{Row}
 use Rattle.gp_script.specs.declared.report.Report.{Report}
 use Rattle.gp_script.specs.declared.report.Report.TheVariants as reports
-use Rattle.gp_ideal.specs.World.{entries}
+use Rattle.gp_world.specs.World.{entries}
 use Rattle.gp_sink.specs.declared.verdict.Verdict.{Verdict}
 use Rattle.gp_sink.specs.declared.verdict.Verdict.TheVariants.{Acted}
 use Rattle.gp_telling.specs.declared.telling.Telling.{Telling}

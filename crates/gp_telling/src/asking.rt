@@ -1,8 +1,8 @@
 //! What the lines of a script, and of a sink's life, ask of a sink, as its calls take it.
 
 ghost use Rattle.std.specs.Prelude.{◌≡◌};
-ghost use Rattle.gp_ideal.specs.Sinks as sinks;
-ghost use Rattle.gp_ideal.specs.Step as steps;
+ghost use Rattle.gp_world.specs.Sinks as sinks;
+ghost use Rattle.gp_world.specs.Step as steps;
 
 use gp_base::{Key, KeyKind, Level, Mode, Src};
 use gp_commission::Offer;

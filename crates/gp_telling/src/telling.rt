@@ -1,8 +1,8 @@
 //! What nodes report in one line of a script.
 ghost use Rattle.std.specs.Prelude.{◌≡◌, ◌+◌, ◌<◌, ◌≤◌, List, [], ◌∷◌, ◌++◌, Option, Some, None, IfOk, MatchOption, map, take, length, vec_capacity};
 ghost use Rattle.gp_ideal.specs.Messages as messages;
-ghost use Rattle.gp_ideal.specs.Sinks as sinks;
-ghost use Rattle.gp_ideal.specs.World as ideal;
+ghost use Rattle.gp_world.specs.Sinks as sinks;
+ghost use Rattle.gp_world.specs.World as ideal;
 ghost use Rattle.gp_sink.specs.Verdict.{verdict_of};
 ghost use Rattle.gp_sink.specs.Sink.{IsMessage};
 ghost use Rattle.gp_telling.specs.Telling.{Said, HasNoActs, listed, listed_row};

@@ -1,5 +1,5 @@
 use Rattle.std.proofs.Common.{Some, map, take}
-use Rattle.gp_ideal.specs.Sinks.{act_report}
+use Rattle.gp_world.specs.Sinks.{act_report}
 use Rattle.gp_telling.specs.Telling.{Said}
 use Rattle.gp_telling.proofs.telling.Telling.act.Given as goal
 
