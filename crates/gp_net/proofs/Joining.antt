@@ -5,8 +5,8 @@ use Rattle.std.specs.List.{count_by, list_any}
 use Rattle.std.specs.Str.{bytes_eq}
 use Rattle.std.proofs.lemmas.List.Sums.{sum_by-cons}
 use Rattle.gp_ideal.specs.declared.config.Config.{Config}
-use Rattle.gp_ideal.specs.World as ideal
-use Rattle.gp_ideal.specs.World.{is_named, is_addressed, is_sink, is_device, has_address, IsSink, IsDevice}
+use Rattle.gp_world.specs.World as ideal
+use Rattle.gp_world.specs.World.{is_named, is_addressed, is_sink, is_device, has_address, IsSink, IsDevice}
 use Rattle.gp_net.specs.declared.node.Kind.{Kind}
 use Rattle.gp_net.specs.declared.node.Kind.TheVariants as kinds
 use Rattle.gp_net.specs.declared.node.Node.{Node}

@@ -1,18 +1,20 @@
 -- The rows that a sink lists are those of the ideal one.
-use Rattle.std.proofs.Common.{◌≡◌, ℕ, zero, suc, ◌+◌, ◌<◌, ◌≤◌, List, [], ◌∷◌, ◌++◌, Option, Some, refl, sym, ◌∙◌, ap, subst, length, map, take, slice_get, length-append, append_assoc, arith}
+use Rattle.std.proofs.Common.{◌≡◌, ℕ, zero, suc, ◌+◌, ◌<◌, ◌≤◌, List, [], ◌∷◌, ◌++◌, Option, Some, None, refl, sym, ◌∙◌, ap, subst, length, map, take, slice_get, length-append, append_assoc, arith}
 use Rattle.std.specs.Prelude.{vec_capacity}
 use Rattle.std.proofs.lemmas.List.{length-map, length-take-le, map-append}
-use Rattle.gp_disk.specs.declared.memory.MemoryDisk.{MemoryDisk}
 use Rattle.gp_rows.specs.declared.row.Row.{Row}
 use Rattle.gp_script.specs.declared.report.Report.{Report}
-use Rattle.gp_script.specs.declared.report.Report.TheVariants.{Rows}
+use Rattle.gp_script.specs.declared.report.Report.TheVariants.{Rows, Dark}
 use Rattle.gp_ideal.specs.declared.ledger.Change.{Change}
 use Rattle.gp_ideal.specs.Ledger.{rows}
-use Rattle.gp_ideal.specs.Sinks.{sink_lists, row_reports}
-use Rattle.gp_ideal.specs.World as ideal
-use Rattle.gp_ideal.specs.World.{IsSink, IsDevice, entries}
+use Rattle.gp_world.specs.Sinks.{sink_lists, row_reports}
+use Rattle.gp_world.specs.World as ideal
+use Rattle.gp_world.specs.World.{IsSink, IsDevice, entries}
 use Rattle.gp_sink.specs.Fits.{Fits, IsRow, pairing_in}
-use Rattle.gp_sink.specs.Sink.{SinkState}
+use Rattle.gp_power.specs.declared.power.Powered.{Powered}
+use Rattle.gp_power.specs.Comes.{Shows}
+use Rattle.gp_power.specs.Stands.{StandsFor}
+use Rattle.gp_world.specs.Power.{passed}
 use Rattle.gp_net.specs.declared.node.Kind.TheVariants as kinds
 use Rattle.gp_telling.specs.declared.telling.Telling.{Telling}
 use Rattle.gp_net.specs.Made.{ListsAtSink}
@@ -36,8 +38,16 @@ all_listed ledger table h =
     ∙ ap (λ (n : ℕ). Rows n ∷ row_reports ledger 0 (map pairing_in table)) (length-map table pairing_in)
     ∙ ap (λ (reports : List Report). Rows (length table) ∷ reports) (rows_listed ledger 0 table (λ k row e. let none : k ≡ 0 + k = omega arith in subst (λ (n : ℕ). IsRow ledger n row) none (h.each k row e)))
 
-pub lists_make : (name : List ℕ) (old : SinkState MemoryDisk) (before after : Telling) → Said (Some name) (Rows (length old.store.rows) ∷ listed 0 old.store.rows) before after
-    → (model : ideal.Kind) → IsKindOf (kinds.Sink old) model → ListsAtSink name before after (kinds.Sink old) model
-unfolding sink_lists
-lists_make name old before after said (IsSink sink) h = (sink, refl, h, subst (λ (reports : List Report). Said (Some name) reports before after) (sym (all_listed sink.ledger old.store.rows h.fits)) said)
-lists_make name old before after said (IsDevice device) h = absurd h
+-- the listing of a sink with power, and of one without
+pub lists_make : (name : List ℕ) (powered : Powered) (rows : List Row) (before after : Telling) → ((model : ideal.Powered) → StandsFor powered model → Shows (Some rows) model) → Said (Some name) (Rows (length rows) ∷ listed 0 rows) before after
+    → (model : ideal.Kind) → IsKindOf (kinds.Sink powered) model → ListsAtSink name before after (kinds.Sink powered) model
+unfolding passed sink_lists
+lists_make name powered rows before after shows said (IsDevice device) h = absurd h
+lists_make name powered rows before after shows said (IsSink model) h =
+    let shown = shows model h in
+    (model, refl, rw shown.1 h, rw shown.1 (subst (λ (reports : List Report). Said (Some name) reports before after) (sym (all_listed model.sink.ledger rows shown.0)) said))
+
+pub dark_makes : (name : List ℕ) (powered : Powered) (before after : Telling) → ((model : ideal.Powered) → StandsFor powered model → Shows None model) → Said (Some name) (Dark ∷ []) before after
+    → (model : ideal.Kind) → IsKindOf (kinds.Sink powered) model → ListsAtSink name before after (kinds.Sink powered) model
+dark_makes name powered before after shows said (IsDevice device) h = absurd h
+dark_makes name powered before after shows said (IsSink model) h = let shown = shows model h in (model, refl, rw shown h, rw shown said)

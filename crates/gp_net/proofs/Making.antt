@@ -1,22 +1,19 @@
 -- A sink and a device come as they come in the ideal network.
-use Rattle.std.proofs.Common.{◌≡◌, ℕ, ◌<◌, ◌≤◌, ◌||◌, Bool, true, false, cond, List, [], ◌∷◌, ◌++◌, Result, Ok, Err, is_some, refl, sym, ◌∙◌, ap, subst, arith, append-nil}
+use Rattle.std.proofs.Common.{◌≡◌, ℕ, ◌*◌, ◌<◌, ◌≤◌, ◌||◌, Bool, true, false, cond, List, [], ◌∷◌, ◌++◌, None, Result, Ok, Err, is_some, refl, sym, ◌∙◌, ap, subst, arith, append-nil}
 use Rattle.std.specs.Prelude.{nat_le}
 use Rattle.std.specs.List.{count_by, list_any}
 use Rattle.std.proofs.lemmas.List.Elements.{All-push}
 use Rattle.std.proofs.lemmas.Bool.{le-leb, lt-leb}
-use Rattle.gp_disk.specs.declared.memory.MemoryDisk.{MemoryDisk}
-use Rattle.gp_rows.specs.declared.row.Row.{Row}
 use Rattle.gp_script.specs.declared.report.Entry.{Entry}
 use Rattle.gp_script.specs.declared.reason.LineReason.{LineReason}
 use Rattle.gp_script.specs.declared.reason.LineReason.TheVariants.{Taken, Many}
-use Rattle.gp_translate.specs.Rules.{standard}
 use Rattle.gp_ideal.specs.declared.config.Config.{Config}
-use Rattle.gp_ideal.specs.Ledger.{rows, floor}
-use Rattle.gp_ideal.specs.Step.{makes_sink, makes_device}
-use Rattle.gp_ideal.specs.World as ideal
-use Rattle.gp_ideal.specs.World.{IsSink, IsDevice, joined}
-use Rattle.gp_sink.specs.Fits.{Fits}
-use Rattle.gp_sink.specs.Sink.{SinkState}
+use Rattle.gp_world.specs.Run.{IsRight}
+use Rattle.gp_world.specs.Step.{makes_sink, makes_device, new_sink}
+use Rattle.gp_world.specs.World as ideal
+use Rattle.gp_world.specs.World.{IsSink, IsDevice, joined}
+use Rattle.gp_power.specs.declared.power.Powered.{Powered}
+use Rattle.gp_power.specs.Stands.{StandsFor}
 use Rattle.gp_net.specs.declared.device.Device.{Device}
 use Rattle.gp_net.specs.declared.fault.NetFault.{NetFault}
 use Rattle.gp_net.specs.declared.fault.NetFault.TheVariants.{NoMemory, Bad}
@@ -26,18 +23,19 @@ use Rattle.gp_net.specs.declared.node.Kind.TheVariants as kinds
 use Rattle.gp_net.specs.declared.node.Node.{Node}
 use Rattle.gp_net.specs.Devices.{ideal_of}
 use Rattle.gp_telling.specs.declared.telling.Telling.{Telling}
-use Rattle.gp_net.specs.Inside.{ComesOf, Joins, place, is_a_sink, is_a_device, is_at}
-use Rattle.gp_net.specs.Steady.{IsSteadyNet, IsSteady, AreSteady, last_of, IsCalmKind}
+use Rattle.gp_net.specs.Inside.{ComesOf, Joins, Went, place, is_a_sink, is_a_device, is_at}
+use Rattle.gp_net.specs.Made.{bit_told}
+use Rattle.gp_net.specs.Steady.{IsSteadyNet, IsFewKind, AreFew}
 use Rattle.gp_net.specs.Net.{IsNetOf}
 use Rattle.gp_net.specs.Nodes.{IsKindOf, IsNodeOf, AreNodesOf}
-use Rattle.gp_net.specs.Sinks.{IsNewSink}
+use Rattle.gp_net.proofs.Keeping.{kind_more}
 use Rattle.gp_net.proofs.Joining.{taken, addressed, sinks_counted, devices_counted, joined_nodes}
 
 -- ---- the tables of reasons, by the nodes of the network
 
 -- the ideal sink of a configuration, and the ideal device
 abbrev pub ideal_sink : Config → ℕ → ideal.Node
-ideal_sink config reading = record { kind = IsSink (record { config = config; rules = standard; ledger = [] }); time = reading }
+ideal_sink config reading = record { kind = IsSink (new_sink config); time = reading }
 
 abbrev pub ideal_device : Device → ℕ → ideal.Node
 ideal_device device reading = record { kind = IsDevice (ideal_of device); time = reading }
@@ -70,20 +68,12 @@ joins old new model name node other h k air sent nodes = (
     nodes = subst (λ (ns : List (List ℕ × Node)). AreNodesOf ns (model.nodes ++ (name, other) ∷ [])) (sym nodes) (joined_nodes old.nodes.items model.nodes name node other h.nodes k);
   },
   refl,
+  refl,
 )
 
-fits_none : (table : List Row) → table ≡ [] → Fits table []
-unfolding rows floor
-fits_none table e = subst (λ (t : List Row). Fits t []) (sym e) (record {
-  pairs = refl;
-  each = λ at row is. absurd cc;
-  order = λ i j a b is. absurd cc;
-  behind = λ at far. refl;
-})
-
-pub new_sink_stands : (config : Config) (sink : SinkState MemoryDisk) (reading : ℕ) (node : Node) → IsNewSink config sink → node.kind ≡ kinds.Sink sink → node.time ≡ reading → IsNodeOf node (ideal_sink config reading)
-new_sink_stands config sink reading node h e t = record {
-  kind = subst (λ (kind : Kind). IsKindOf kind (ideal_sink config reading).kind) (sym e) (record { runs = h.calm.runs; config = h.set_up; rules = h.rules; fits = fits_none sink.store.rows h.rows });
+pub new_sink_stands : (config : Config) (powered : Powered) (reading : ℕ) (node : Node) → StandsFor powered (new_sink config) → node.kind ≡ kinds.Sink powered → node.time ≡ reading → IsNodeOf node (ideal_sink config reading)
+new_sink_stands config powered reading node h e t = record {
+  kind = subst (λ (kind : Kind). IsKindOf kind (ideal_sink config reading).kind) (sym e) h;
   time = t;
 }
 
@@ -96,11 +86,11 @@ new_device_stands device reading node z e t = record {
 -- ---- the network stays steady
 
 pub steady_joined : (old new : Net) (line : ℕ) (name : List ℕ) (node : Node) → IsSteadyNet line old → new.sent ≡ old.sent → new.nodes.items ≡ old.nodes.items ++ (name, node) ∷ []
-    → IsCalmKind node.kind → last_of node.kind ≡ 0 → IsSteadyNet line new
-steady_joined old new line name node h sent nodes calm last = record {
+    → IsFewKind 0 node.kind → IsSteadyNet line new
+steady_joined old new line name node h sent nodes few = record {
   sent = omega (arith, sent, h.sent);
-  nodes = subst (λ (ns : List (List ℕ × Node)). AreSteady line ns) (sym nodes)
-      (All-push (λ (n : List ℕ × Node). IsSteady line n.1) old.nodes.items (name, node) h.nodes (record { calm = calm; few = omega (arith, last) }));
+  nodes = subst (λ (ns : List (List ℕ × Node)). AreFew (2 * line) ns) (sym nodes)
+      (All-push (λ (n : List ℕ × Node). IsFewKind (2 * line) n.1.kind) old.nodes.items (name, node) h.nodes (kind_more 0 (2 * line) node.kind (omega arith) few));
 }
 
 -- ---- as the calls of a network need it
@@ -152,11 +142,22 @@ device_joins net nodes model reading count name device e h t n m =
     device_by_tests net model reading name device h
     ∙ else_joins _ _ model name (ideal_device device reading) (subst (λ (ns : List (List ℕ × Node)). is_some (place name ns) ≡ false) e t) (subst (λ (k : ℕ). k < 64) n m)
 
--- a line by which a node joins tells nothing
-pub joins_comes : (next : Result ideal.Next LineReason) (net : Net) (telling : Telling) (result : Result (Unit {0}) NetFault) → Joins next net result → ComesOf next net telling telling result
-joins_comes (Ok next) net telling (Ok value) h = (h.0, record { line = refl; entries = sym (append-nil telling.entries.items) ∙ ap (λ (told : List Entry). telling.entries.items ++ told) (sym h.1) })
-joins_comes (Ok next) net telling (Err NoMemory) h = tt
-joins_comes (Ok next) net telling (Err (Bad reason)) h = absurd h
-joins_comes (Err reason) net telling (Ok value) h = absurd h
-joins_comes (Err reason) net telling (Err NoMemory) h = tt
-joins_comes (Err reason) net telling (Err (Bad other)) h = h
+-- a line by which a node joins tells nothing, and takes no bit
+pub joins_went : (next : Result ideal.Next LineReason) (net : Net) (telling : Telling) → Joins next net (Ok tt) → Went (λ bit. next) net telling telling None
+joins_went (Ok next) net telling h = record {
+  bit = false;
+  next = next;
+  steps = refl;
+  takes = sym (ap (λ (c : ideal.Choice). bit_told c false) h.2);
+  right = subst (λ (c : ideal.Choice). IsRight c false) (sym h.2) tt;
+  exact = λ some other is stands. absurd cc;
+  stands = h.0;
+  told = record { line = refl; entries = sym (append-nil telling.entries.items) ∙ ap (λ (told : List Entry). telling.entries.items ++ told) (sym h.1) };
+}
+joins_went (Err reason) net telling h = absurd h
+
+pub joins_comes : (next : Result ideal.Next LineReason) (net : Net) (telling : Telling) (fault : NetFault) → Joins next net (Err fault) → ComesOf (λ bit. next) net telling telling (Err fault)
+joins_comes (Ok next) net telling NoMemory h = tt
+joins_comes (Ok next) net telling (Bad reason) h = absurd h
+joins_comes (Err reason) net telling NoMemory h = tt
+joins_comes (Err reason) net telling (Bad other) h = λ bit. ap Err (sym h)

@@ -1,10 +1,10 @@
 -- The place of a name among nodes, and the ideal node of that name.
-use Rattle.std.proofs.Common.{◌≡◌, ℕ, suc, ◌+◌, ◌<◌, Bool, length, arith, true, false, cond, List, [], ◌∷◌, Option, Some, None, refl, subst, slice_get, slice_set}
+use Rattle.std.proofs.Common.{◌≡◌, ℕ, suc, ◌+◌, ◌<◌, Bool, length, arith, true, false, cond, List, [], ◌∷◌, Option, Some, None, refl, sym, subst, slice_get, slice_set}
 use Rattle.std.specs.Prelude.{option_map}
 use Rattle.std.specs.Str.{bytes_eq}
 use Rattle.std.proofs.lemmas.Slice.Eq.{bytes_eq-Decides}
-use Rattle.gp_ideal.specs.World as ideal
-use Rattle.gp_ideal.specs.World.{named, replaced}
+use Rattle.gp_world.specs.World as ideal
+use Rattle.gp_world.specs.World.{named, replaced}
 use Rattle.gp_net.specs.declared.node.Node.{Node}
 use Rattle.gp_net.specs.Inside.{place}
 use Rattle.gp_net.specs.Nodes.{IsNodeOf, AreNodesOf}
@@ -98,3 +98,27 @@ there name (n ∷ ns) at p = by (λ k e. there name ns k e) (bytes_eq n.0 name) 
         let b = behind (place name ns) at p in
         let r = rest b.0 b.1 in
         subst (λ (k : ℕ). (k < length (n ∷ ns)) × ((node : List ℕ × Node) × (slice_get (n ∷ ns) k ≡ Some node))) b.2 (omega (arith, r.0), r.1)
+
+-- a node in the place of another stands for the ideal node in the place of that
+pub replaced_stands : (name : List ℕ) (nodes : List (List ℕ × Node)) (models : List (List ℕ × ideal.Node)) (at : ℕ) (own : List ℕ) (node : Node) (model : ideal.Node) → AreNodesOf nodes models → place name nodes ≡ Some at
+    → AreNodesOf (slice_set nodes at (own, node)) (replaced name model models) → IsNodeOf node model
+replaced_stands name [] models at own node model h p k = absurd cc
+replaced_stands name (n ∷ ns) [] at own node model h p k = absurd h
+replaced_stands name (n ∷ ns) (m ∷ ms) at own node model h p k = by (λ i e. replaced_stands name ns ms i own node model h.2 e) (bytes_eq n.0 name) refl p
+  where
+    by : ((i : ℕ) → place name ns ≡ Some i → AreNodesOf (slice_set ns i (own, node)) (replaced name model ms) → IsNodeOf node model)
+        → (b : Bool) → bytes_eq n.0 name ≡ b → cond b (Some 0) (option_map suc (place name ns)) ≡ Some at → IsNodeOf node model
+    by rest true e p =
+        let z : 0 ≡ at = cc in
+        let other : bytes_eq m.0 name ≡ true = subst (λ (x : List ℕ). bytes_eq x name ≡ true) h.0 e in
+        let here : AreNodesOf (slice_set (n ∷ ns) 0 (own, node)) (cond true ((name, model) ∷ ms) (m ∷ replaced name model ms)) =
+        subst (λ (b : Bool). AreNodesOf (slice_set (n ∷ ns) 0 (own, node)) (cond b ((name, model) ∷ ms) (m ∷ replaced name model ms))) other
+        (subst (λ (i : ℕ). AreNodesOf (slice_set (n ∷ ns) i (own, node)) (replaced name model (m ∷ ms))) (sym z) k) in
+        here.1
+    by rest false e p =
+        let b = behind (place name ns) at p in
+        let other : bytes_eq m.0 name ≡ false = subst (λ (x : List ℕ). bytes_eq x name ≡ false) h.0 e in
+        let here : AreNodesOf (slice_set (n ∷ ns) (suc b.0) (own, node)) (cond false ((name, model) ∷ ms) (m ∷ replaced name model ms)) =
+        subst (λ (c : Bool). AreNodesOf (slice_set (n ∷ ns) (suc b.0) (own, node)) (cond c ((name, model) ∷ ms) (m ∷ replaced name model ms))) other
+        (subst (λ (i : ℕ). AreNodesOf (slice_set (n ∷ ns) i (own, node)) (replaced name model (m ∷ ms))) (sym b.2) k) in
+        rest b.0 b.1 here.2

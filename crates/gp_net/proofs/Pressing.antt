@@ -3,9 +3,9 @@ use Rattle.std.proofs.Common.{◌≡◌, ℕ, suc, ◌%◌, ◌<◌, ◌==◌, B
 use Rattle.std.specs.Prelude.{IfNone, IfSome, OnSome}
 use Rattle.std.proofs.lemmas.Bool.{eq-eqb}
 use Rattle.gp_frames.specs.Frame.{spelling}
-use Rattle.gp_ideal.specs.Devices.{device_presses, sealed}
-use Rattle.gp_ideal.specs.World as ideal
-use Rattle.gp_ideal.specs.World.{IsSink, IsDevice, as_device}
+use Rattle.gp_world.specs.Devices.{device_presses, sealed}
+use Rattle.gp_world.specs.World as ideal
+use Rattle.gp_world.specs.World.{IsSink, IsDevice, as_device}
 use Rattle.gp_net.specs.declared.device.Device.{Device}
 use Rattle.gp_net.specs.declared.node.Kind.TheVariants as kinds
 use Rattle.gp_net.specs.Devices.{ideal_of, IsDeviceOf}
@@ -30,13 +30,13 @@ pub presses_make : (command : List ℕ) (old new : Device) (octets : Option (Lis
     → IfSome octets (λ o. o ≡ spelling (sealed (ideal_of old) (suc old.counter) command))
     → OnSome octets ((old.counter < 4294967295) × (new ≡ record old { counter = suc old.counter; sequence = suc old.sequence % 256 }))
     → (model : ideal.Kind) → IsKindOf (kinds.Device old) model
-    → (device : ideal.Device) × (as_device model ≡ Some device) × Makes (device_presses command device) (kinds.Device new) (says_pressed octets) [] (airs_pressed octets)
+    → (device : ideal.Device) × (as_device model ≡ Some device) × Makes (device_presses command device) (kinds.Device new) (says_pressed octets) [] (airs_pressed octets) × ((device_presses command device).choice ≡ ideal.Fixed)
 unfolding device_presses
 presses_make command old new octets none sends counts (IsSink sink) h = absurd h
 presses_make command old new None none sends counts (IsDevice device) h =
     let last : device.counter ≡ 4294967295 = ap (λ (d : ideal.Device). d.counter) h.fields ∙ none.0 in
-    (device, refl, rw (eq-eqb device.counter 4294967295 last) (record { stands = subst (λ (d : Device). IsDeviceOf d device) (sym none.1) h; says_are = refl; puts_are = refl; airs_are = refl }))
-presses_make command old new (Some octets) none sends counts (IsDevice device) h = (device, refl, go (device.counter == 4294967295) refl)
+    (device, refl, rw (eq-eqb device.counter 4294967295 last) (record { stands = subst (λ (d : Device). IsDeviceOf d device) (sym none.1) h; says_are = refl; puts_are = refl; airs_are = refl }), rw (eq-eqb device.counter 4294967295 last) refl)
+presses_make command old new (Some octets) none sends counts (IsDevice device) h = let made = go (device.counter == 4294967295) refl in (device, refl, made.0, made.1)
   where
     same : device.counter ≡ old.counter
     same = ap (λ (d : ideal.Device). d.counter) h.fields
@@ -50,6 +50,6 @@ presses_make command old new (Some octets) none sends counts (IsDevice device) h
     sent : (spelling (sealed device (suc device.counter) command) ∷ []) ≡ octets ∷ []
     sent = ap (λ (o : List ℕ). o ∷ []) (ap spelling (ap (λ (c : ℕ). sealed device (suc c) command) same ∙ sym (same_frame old device (suc old.counter) command h)) ∙ sym sends)
 
-    go : (b : Bool) → (device.counter == 4294967295) ≡ b → Makes (device_presses command device) (kinds.Device new) [] [] (octets ∷ [])
+    go : (b : Bool) → (device.counter == 4294967295) ≡ b → Makes (device_presses command device) (kinds.Device new) [] [] (octets ∷ []) × ((device_presses command device).choice ≡ ideal.Fixed)
     go true e = absurd (omega (arith, Rattle.std.proofs.lemmas.Bool.eqb-true device.counter 4294967295 e, same, counts.0))
-    go false e = rw e (record { stands = next; says_are = refl; puts_are = refl; airs_are = sent })
+    go false e = (rw e (record { stands = next; says_are = refl; puts_are = refl; airs_are = sent }), rw e refl)

@@ -2,8 +2,8 @@
 use Rattle.std.proofs.Common.{◌≡◌, ℕ, ◌+◌, List, ◌++◌, Option, length, sym, ◌∙◌, ap, subst, slice_set, length-append}
 use Rattle.std.proofs.lemmas.List.{length-map}
 use Rattle.gp_cluster.specs.declared.message.Sent.{Sent}
-use Rattle.gp_ideal.specs.World as ideal
-use Rattle.gp_ideal.specs.World.{Message, named, settled, reports, entries, put_reports, air_reports, messages_of}
+use Rattle.gp_world.specs.World as ideal
+use Rattle.gp_world.specs.World.{Message, named, settled, reports, entries, put_reports, air_reports, messages_of}
 use Rattle.gp_net.specs.declared.net.Net.{Net}
 use Rattle.gp_net.specs.declared.node.Node.{Node}
 use Rattle.gp_net.specs.Nodes.{IsKindOf, AreNodesOf}

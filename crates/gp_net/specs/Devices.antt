@@ -1,6 +1,6 @@
 -- How a device stands for an ideal one.
 use Rattle.std.specs.Prelude.{◌≡◌, ◌%◌}
-use Rattle.gp_ideal.specs.World as ideal
+use Rattle.gp_world.specs.World as ideal
 use Rattle.gp_net.specs.declared.device.Device.{Device}
 
 -- the ideal device that has sent as many frames as the sequence number says

@@ -4,10 +4,10 @@ use Rattle.std.specs.Str.{bytes_eq}
 use Rattle.gp_script.specs.declared.reason.LineReason.{LineReason}
 use Rattle.gp_script.specs.declared.report.Entry.{Entry}
 use Rattle.gp_script.specs.declared.script.Action.{Action}
-use Rattle.gp_script.specs.declared.script.Action.TheVariants.{Sink, Device, Pair, Rule, Announce, Press, Table}
+use Rattle.gp_script.specs.declared.script.Action.TheVariants.{Sink, Device, Pair, Rule, Announce, Press, Table, Cut, Fault, On, OnCut, Off}
 use Rattle.gp_script.specs.declared.script.Event.{Event}
 use Rattle.gp_script.specs.declared.script.Event.TheVariants.{Nothing, Line}
-use Rattle.gp_ideal.specs.World as ideal
+use Rattle.gp_world.specs.World as ideal
 use Rattle.gp_net.specs.declared.fault.NetFault.{NetFault}
 use Rattle.gp_net.specs.declared.fault.NetFault.TheVariants.{NoMemory, Bad}
 use Rattle.gp_net.specs.declared.net.Net.{Net}
@@ -16,7 +16,9 @@ use Rattle.gp_net.specs.declared.node.Kind.TheVariants as kinds
 use Rattle.gp_net.specs.declared.node.Node.{Node}
 use Rattle.gp_telling.specs.declared.telling.Telling.{Telling}
 use Rattle.gp_net.specs.Steady.{IsSteadyNet}
-use Rattle.gp_net.specs.Net.{IsNetOf}
+use Rattle.gp_world.specs.Run.{IsRight}
+use Rattle.gp_net.specs.Made.{bit_told}
+use Rattle.gp_net.specs.Net.{IsNetOf, rearmed}
 
 -- ---- nodes by their names and kinds
 
@@ -30,7 +32,7 @@ is_sink_kind (kinds.Sink sink) = true
 is_sink_kind (kinds.Device device) = false
 
 abbrev pub is_kind_at : ℕ → Kind → Bool
-is_kind_at address (kinds.Sink sink) = sink.config.address == address
+is_kind_at address (kinds.Sink powered) = powered.config.address == address
 is_kind_at address (kinds.Device device) = false
 
 -- a node under its name that is a sink, a device, or has this address
@@ -78,47 +80,78 @@ pub record Told (told : List Entry) (old new : Telling) : Type 0 where
   pub line : new.line ≡ old.line
   pub entries : new.entries.items ≡ old.entries.items ++ told
 
--- The line comes to what the ideal step comes to.
-abbrev pub ComesTo : Result ideal.Next LineReason → Net → Telling → Telling → Result (Unit {0}) LineReason → Type 0
-ComesTo (Ok next) net old new (Ok value) = IsNetOf net next.world × Told next.told old new
-ComesTo (Err reason) net old new (Err other) = other ≡ reason
-ComesTo _ net old new result = ⊥
+-- The line went through as the ideal step, by a bit that is right; it took this one. Where that is no, the network doesn't stand for
+-- what the step comes to with yes.
+pub record Went (step : Bool → Result ideal.Next LineReason) (net : Net) (old new : Telling) (took : Option Bool) : Type 0 where
+  pub bit : Bool
+  pub next : ideal.Next
+  pub steps : step bit ≡ Ok next
+  pub takes : took ≡ bit_told next.choice bit
+  pub right : IsRight next.choice bit
+  pub exact : took ≡ Some false → (other : ideal.Next) → step true ≡ Ok other → IsNetOf net other.world → ⊥
+  pub stands : IsNetOf net next.world
+  pub told : Told next.told old new
+
+-- The line comes to what the ideal step comes to: it goes through, or is refused for the same reason, whatever the bit.
+abbrev pub ComesTo : (Bool → Result ideal.Next LineReason) → Net → Telling → Telling → Result (Option Bool) LineReason → Type 0
+ComesTo step net old new (Ok took) = Went step net old new took
+ComesTo step net old new (Err reason) = (bit : Bool) → step bit ≡ Err reason
 
 -- a node joins as it joins in the ideal step; want of memory is free
 abbrev pub Joins : Result ideal.Next LineReason → Net → Result (Unit {0}) NetFault → Type 0
-Joins (Ok next) net (Ok value) = IsNetOf net next.world × (next.told ≡ [])
+Joins (Ok next) net (Ok value) = IsNetOf net next.world × (next.told ≡ []) × (next.choice ≡ ideal.Fixed)
 Joins (Ok next) net (Err NoMemory) = Unit {0}
 Joins (Err reason) net (Err (Bad other)) = other ≡ reason
 Joins _ net result = ⊥
 
 -- a line of any kind comes to what the ideal step comes to
-abbrev pub ComesOf : Result ideal.Next LineReason → Net → Telling → Telling → Result (Unit {0}) NetFault → Type 0
-ComesOf (Ok next) net old new (Ok value) = IsNetOf net next.world × Told next.told old new
-ComesOf next net old new (Err NoMemory) = Unit {0}
-ComesOf (Err reason) net old new (Err (Bad other)) = other ≡ reason
-ComesOf _ net old new result = ⊥
+abbrev pub ComesOf : (Bool → Result ideal.Next LineReason) → Net → Telling → Telling → Result (Option Bool) NetFault → Type 0
+ComesOf step net old new (Ok took) = Went step net old new took
+ComesOf step net old new (Err NoMemory) = Unit {0}
+ComesOf step net old new (Err (Bad reason)) = (bit : Bool) → step bit ≡ Err reason
 
--- a command of a press isn't empty, and fits a frame
+-- Behind a line that doesn't go through the network is as it was; but where memory wasn't found to switch a sink on, its arming may
+-- be another.
+abbrev pub MayRearm : List ℕ → Net → Net → Type 0
+MayRearm name old new = (model : ideal.World) → IsNetOf old model → (armed : ideal.Armed) × IsNetOf new (rearmed name armed model)
+
+abbrev pub IsLeftBy : List ℕ → NetFault → Net → Net → Type 0
+IsLeftBy name NoMemory old new = MayRearm name old new
+IsLeftBy name (Bad reason) old new = new ≡ old
+
+abbrev pub IsLeft : Action → NetFault → Net → Net → Type 0
+IsLeft (On name) NoMemory old new = MayRearm name old new
+IsLeft (OnCut name calls way) NoMemory old new = MayRearm name old new
+IsLeft action fault old new = new ≡ old
+
+-- a command of a press isn't empty, and fits a frame; a commit is counted from 1, and a disk crashes in one of five ways
 abbrev pub IsAction : Action → Type 0
 IsAction (Press device command) = (0 < length command) × (length command ≤ 104)
+IsAction (Cut sink commit calls way) = (1 ≤ commit) × (commit ≤ 1000000) × (way ≤ 4)
+IsAction (Fault sink commit calls) = (1 ≤ commit) × (commit ≤ 1000000)
+IsAction (OnCut sink calls way) = way ≤ 4
 IsAction other = Unit {0}
 
 abbrev pub IsEvent : Event → Type 0
 IsEvent Nothing = Unit {0}
 IsEvent (Line reading action) = IsAction action
 
--- a line that makes no node
+-- a line that makes no node, and switches none on
 abbrev pub MakesNoNode : Action → Type 0
 MakesNoNode (Sink name address ieee mode channel link shared) = ⊥
 MakesNoNode (Device name source key kind level device counter) = ⊥
+MakesNoNode (On name) = ⊥
+MakesNoNode (OnCut name calls way) = ⊥
 MakesNoNode other = Unit {0}
 
--- a line in which a sink takes part that is there
+-- a line in which a sink takes part that is there, and that switches none on
 abbrev pub IsAtSink : Action → Type 0
 IsAtSink (Pair sink source key kind level device counter) = Unit {0}
 IsAtSink (Rule sink source command endpoint form) = Unit {0}
 IsAtSink (Announce sink source) = Unit {0}
-IsAtSink (Table sink) = Unit {0}
+IsAtSink (Cut sink commit calls way) = Unit {0}
+IsAtSink (Fault sink commit calls) = Unit {0}
+IsAtSink (Off sink) = Unit {0}
 IsAtSink other = ⊥
 
 -- a list of rows has at most 1,025 entries
@@ -129,3 +162,7 @@ NeedsRoom other room = Unit {0}
 abbrev pub NeedsRoomFor : Event → ℕ → Type 0
 NeedsRoomFor Nothing room = Unit {0}
 NeedsRoomFor (Line reading action) room = NeedsRoom action room
+
+abbrev pub IsLeftAt : Event → NetFault → Net → Net → Type 0
+IsLeftAt Nothing fault old new = new ≡ old
+IsLeftAt (Line reading action) fault old new = IsLeft action fault old new

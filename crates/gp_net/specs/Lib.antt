@@ -4,5 +4,5 @@ pub mod Net
 pub mod Steady
 pub mod World
 pub mod Inside
-pub mod Sinks
+pub mod Replies
 pub mod Made

@@ -1,10 +1,8 @@
 -- How nodes stand for ideal ones.
-use Rattle.std.specs.Prelude.{◌≡◌, ℕ, false, List, [], ◌∷◌}
-use Rattle.gp_disk.specs.declared.memory.MemoryDisk.{MemoryDisk}
-use Rattle.gp_sink.specs.Fits.{Fits}
-use Rattle.gp_sink.specs.Sink.{SinkState}
-use Rattle.gp_ideal.specs.World as ideal
-use Rattle.gp_ideal.specs.World.{IsSink, IsDevice}
+use Rattle.std.specs.Prelude.{◌≡◌, ℕ, List, [], ◌∷◌}
+use Rattle.gp_power.specs.Stands.{StandsFor}
+use Rattle.gp_world.specs.World as ideal
+use Rattle.gp_world.specs.World.{Armed, IsSink, IsDevice}
 use Rattle.gp_net.specs.declared.node.Kind.{Kind}
 use Rattle.gp_net.specs.declared.node.Kind.TheVariants as kinds
 use Rattle.gp_net.specs.declared.node.Node.{Node}
@@ -12,16 +10,9 @@ use Rattle.gp_net.specs.Devices.{IsDeviceOf}
 
 -- ---- what a node stands for
 
--- A sink runs, with the configuration and the rules of the ideal one, and its rows fit the ledger.
-pub record IsSinkOf (sink : SinkState MemoryDisk) (model : ideal.Sink) : Type 0 where
-  pub runs : sink.store.halted ≡ false
-  pub config : sink.config ≡ model.config
-  pub rules : sink.rules ≡ model.rules
-  pub fits : Fits sink.store.rows model.ledger
-
 abbrev pub IsKindOf : Kind → ideal.Kind → Type 0
-IsKindOf (kinds.Sink sink) (IsSink model) = IsSinkOf sink model
-IsKindOf (kinds.Sink sink) (IsDevice model) = ⊥
+IsKindOf (kinds.Sink powered) (IsSink model) = StandsFor powered model
+IsKindOf (kinds.Sink powered) (IsDevice model) = ⊥
 IsKindOf (kinds.Device device) (IsSink model) = ⊥
 IsKindOf (kinds.Device device) (IsDevice model) = IsDeviceOf device model
 
@@ -35,3 +26,8 @@ AreNodesOf [] [] = Unit {0}
 AreNodesOf [] (model ∷ models) = ⊥
 AreNodesOf (node ∷ nodes) [] = ⊥
 AreNodesOf (node ∷ nodes) (model ∷ models) = (node.0 ≡ model.0) × IsNodeOf node.1 model.1 × AreNodesOf nodes models
+
+-- a sink with another cut or fault armed
+abbrev pub armed_so : Armed → ideal.Kind → ideal.Kind
+armed_so armed (IsSink powered) = IsSink (record powered { armed = armed })
+armed_so armed (IsDevice device) = IsDevice device

@@ -1,7 +1,7 @@
 //! A batteryless device.
 ghost use Rattle.std.specs.Prelude.{◌≡◌, ◌≢◌, ◌+◌, ◌<◌, ◌≤◌, ◌%◌, ℕ, suc, length, IfSome, OnSome, IfNone};
 ghost use Rattle.gp_frames.specs.Frame.{spelling};
-ghost use Rattle.gp_ideal.specs.Devices as ideal;
+ghost use Rattle.gp_world.specs.Devices as ideal;
 ghost use Rattle.gp_net.specs.Devices.{ideal_of};
 
 use gp_base::{Key, KeyKind, Level, Octets, Src, Steps};

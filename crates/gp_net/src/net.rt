@@ -1,31 +1,29 @@
 //! A network: the frames on the air, how many messages were sent, and the nodes.
-ghost use Rattle.std.specs.Prelude.{◌≡◌, ◌||◌, ◌<◌, ◌≤◌, ◌+◌, ◌-◌, ◌^◌, ◌++◌, ℕ, length, Ok, Some, None, true, false, IfSome, IfNone, OnOk, OnErr, is_some, vec_capacity};
-ghost use Rattle.std.specs.Str.{bytes_eq};
-ghost use Rattle.gp_script.specs.declared.script.Action.{Action as AnAction};
-ghost use Rattle.gp_sink.specs.Sink.{GivesMessage};
-ghost use Rattle.gp_sink.specs.Verdict.{offered};
-ghost use Rattle.gp_ideal.specs.World.{World, entries, put_reports, injected};
-ghost use Rattle.gp_ideal.specs.Step as steps;
-ghost use Rattle.gp_ideal.specs.Sinks.{sink_pairs, sink_rules, sink_announces, sink_lists};
-ghost use Rattle.gp_ideal.specs.Devices.{device_presses};
+ghost use Rattle.std.specs.Prelude.{◌≡◌, ◌||◌, ◌<◌, ◌≤◌, ◌+◌, ◌-◌, ◌^◌, ◌++◌, ℕ, length, Ok, Some, None, true, false, IfSome, IfNone, IfErr, OnOk, OnErr, is_some, vec_capacity};
 ghost use Rattle.std.specs.List.{count_by, list_any};
-ghost use Rattle.gp_net.specs.Inside.{place, is_a_device, is_a_sink, is_at, IsPlaceOf, HasNone, IsReady, IsAction, IsAtSink, MakesNoNode, NeedsRoom, HasRoom, Joins, ComesTo, ComesOf, Told};
+ghost use Rattle.gp_sink.specs.Sink.{GivesMessage};
+ghost use Rattle.gp_sink.specs.Verdict.{verdict_of};
+ghost use Rattle.gp_world.specs.Devices.{device_presses};
+ghost use Rattle.gp_world.specs.Power.{lists};
+ghost use Rattle.gp_world.specs.Sinks.{verdict_reports, verdict_puts};
+ghost use Rattle.gp_world.specs.Step as steps;
+ghost use Rattle.gp_world.specs.World.{World, entries, put_reports, injected};
 ghost use Rattle.gp_net.specs.Devices.{ideal_of};
-ghost use Rattle.gp_net.specs.Made.{says_verdict, puts_verdict};
-ghost use Rattle.gp_net.specs.Steady.{IsSteadyNet};
+ghost use Rattle.gp_net.specs.Inside.{place, is_a_device, is_a_sink, is_at, IsPlaceOf, HasNone, IsReady, IsAction, IsAtSink, IsLeft, IsLeftBy, MakesNoNode, NeedsRoom, HasRoom, Joins, ComesTo, ComesOf, Told};
 ghost use Rattle.gp_net.specs.Net.{IsNetOf, IsSameNet};
+ghost use Rattle.gp_net.specs.Replies.{asked, says, puts, switched, IsReply, IsRequest, IsSwitch};
+ghost use Rattle.gp_net.specs.Steady.{IsSteadyNet};
 
 use crate::device::Device;
 use crate::fault::NetFault;
 use crate::node::{Kind, Node};
-use crate::sinks::{message_of, new_sink};
+use crate::reply::{Reply, Request, Switch};
 use gp_base::place::put_last;
-use gp_base::{NoMemory, Octets, Src};
-use gp_commission::Offer;
-use gp_script::{Action, Cause, Dropped, LineReason, Name, Report};
+use gp_base::{NoMemory, Octets};
+use gp_power::{Powered, message_of};
+use gp_script::{Action, LineReason, Name, Report};
 use gp_sink::{Config, Verdict};
 use gp_telling::{Telling, config_of, offer_of, rule_of};
-use gp_translate::Rule;
 use std::alloc::Global;
 
 /// The most sinks, and the most devices.
@@ -143,13 +141,31 @@ impl Net {
         Ok(())
     }
 
-    // A node reports a verdict, with its acts, and puts its message.
-    fn tell(&mut self, telling: &mut Telling, name: &Name, verdict: Verdict)
+    // A node reports what it replied, and puts its message.
+    fn tell(&mut self, telling: &mut Telling, name: &Name, reply: Reply)
+        requires reply { IsReply reply }
+        requires room { length telling.old.entries.items + 6 ≤ vec_capacity telling.old.entries }
+        requires few { self.old.sent < 2 ^ 64 - 1 }
+        ensures told { Told (entries telling.old.line (Some name.now) (says reply ++ put_reports self.old.sent (puts reply))) telling.old telling.new }
+        ensures sent { self.new ≡ record self.old { sent = self.old.sent + length (puts reply) } }
+    {
+        match reply {
+            Reply::Verdict(verdict) => self.tell_verdict(telling, name, verdict),
+            Reply::Put(sent) => {
+                telling.put(name, self.sent, sent);
+                self.sent += 1;
+            }
+            Reply::Report(report) => telling.say(name, report),
+        }
+    }
+
+    // A sink reports a verdict, with its acts, and puts its message.
+    fn tell_verdict(&mut self, telling: &mut Telling, name: &Name, verdict: Verdict)
         requires message { GivesMessage verdict }
         requires room { length telling.old.entries.items + 6 ≤ vec_capacity telling.old.entries }
         requires few { self.old.sent < 2 ^ 64 - 1 }
-        ensures told { Told (entries telling.old.line (Some name.now) (says_verdict verdict ++ put_reports self.old.sent (puts_verdict verdict))) telling.old telling.new }
-        ensures sent { self.new ≡ record self.old { sent = self.old.sent + length (puts_verdict verdict) } }
+        ensures told { Told (entries telling.old.line (Some name.now) (verdict_reports (verdict_of verdict) ++ put_reports self.old.sent (verdict_puts (verdict_of verdict)))) telling.old telling.new }
+        ensures sent { self.new ≡ record self.old { sent = self.old.sent + length (verdict_puts (verdict_of verdict)) } }
     {
         telling.tell(name, &verdict);
         if let Some(sent) = message_of(verdict) {
@@ -165,9 +181,9 @@ impl Net {
         reading: u64,
         frame: u64,
         name: &Name,
-    ) -> Result<(), LineReason>
+    ) -> Result<Option<bool>, LineReason>
         requires ready { IsReady self.old telling.old }
-        ensures comes { (model : World) → IsNetOf self.old model → ComesTo (steps.hears model telling.old.line reading frame name.now) self.new telling.old telling.new result }
+        ensures comes { (model : World) → IsNetOf self.old model → ComesTo (λ bit. steps.hears model telling.old.line reading frame name.now bit) self.new telling.old telling.new result }
         ensures kept { OnErr result (self.new ≡ self.old) }
         ensures steady { IsSteadyNet telling.old.line self.new }
     {
@@ -178,24 +194,22 @@ impl Net {
             return Err(LineReason::Missing);
         };
         let node = &mut self.nodes[at].1;
-        match node.hear(reading, octets.as_slice()) {
-            Some(verdict) => self.tell(telling, name, verdict),
-            None => telling.say(name, Report::Closed),
-        }
-        Ok(())
+        let (reply, bit) = node.hear(reading, octets.as_slice());
+        self.tell(telling, name, reply);
+        Ok(bit)
     }
 
-    // A device is to be paired with the sink of this name.
-    fn pair(
+    // A line asks something of the sink of this name.
+    fn ask(
         &mut self,
         telling: &mut Telling,
         reading: u64,
         name: &Name,
-        offer: &Offer,
-    ) -> Result<(), LineReason>
+        request: Request,
+    ) -> Result<Option<bool>, LineReason>
         requires ready { IsReady self.old telling.old }
-        ensures comes { (model : World) → IsNetOf self.old model
-            → ComesTo (steps.at_sink model telling.old.line reading name.now (λ sink. sink_pairs (offered sink.config offer.now) offer.now.counter sink)) self.new telling.old telling.new result }
+        requires request { IsRequest request }
+        ensures comes { (model : World) → IsNetOf self.old model → ComesTo (λ bit. steps.at_sink model telling.old.line reading name.now (asked request bit)) self.new telling.old telling.new result }
         ensures kept { OnErr result (self.new ≡ self.old) }
         ensures steady { IsSteadyNet telling.old.line self.new }
     {
@@ -203,70 +217,48 @@ impl Net {
             return Err(LineReason::Absent);
         };
         let node = &mut self.nodes[at].1;
-        let verdict = node.pair(reading, offer);
-        self.tell(telling, name, verdict);
-        Ok(())
+        let (reply, bit) = node.ask(reading, request);
+        self.tell(telling, name, reply);
+        Ok(bit)
     }
 
-    // A rule is to be added to those of the sink of this name.
-    fn add_rule(
+    // The sink of this name is switched on.
+    fn switch_on(
         &mut self,
+        alloc: Global,
         telling: &mut Telling,
         reading: u64,
         name: &Name,
-        rule: Rule,
-    ) -> Result<(), LineReason>
+        switch: Switch,
+    ) -> Result<Option<bool>, NetFault>
         requires ready { IsReady self.old telling.old }
-        ensures comes { (model : World) → IsNetOf self.old model → ComesTo (steps.at_sink model telling.old.line reading name.now (sink_rules rule)) self.new telling.old telling.new result }
-        ensures kept { OnErr result (self.new ≡ self.old) }
+        requires switch { IsSwitch switch }
+        ensures comes { (model : World) → IsNetOf self.old model → ComesOf (λ bit. steps.at_sink model telling.old.line reading name.now (switched switch)) self.new telling.old telling.new result }
+        ensures left { IfErr result (λ fault. IsLeftBy name.now fault self.old self.new) }
+        ensures few { OnErr result ((line : ℕ) → IsSteadyNet line self.old → IsSteadyNet line self.new) }
         ensures steady { IsSteadyNet telling.old.line self.new }
     {
         let Some(at) = sink_at(&self.nodes, name) else {
-            return Err(LineReason::Absent);
+            return Err(NetFault::Bad(LineReason::Absent));
         };
         let node = &mut self.nodes[at].1;
-        let answer = node.add_rule(reading, rule);
-        telling.say(name, Report::Rule { answer });
-        Ok(())
-    }
-
-    // The sink of this name tells of a current pairing again.
-    fn announce(
-        &mut self,
-        telling: &mut Telling,
-        reading: u64,
-        name: &Name,
-        source: Src,
-    ) -> Result<(), LineReason>
-        requires ready { IsReady self.old telling.old }
-        ensures comes { (model : World) → IsNetOf self.old model → ComesTo (steps.at_sink model telling.old.line reading name.now (sink_announces source)) self.new telling.old telling.new result }
-        ensures kept { OnErr result (self.new ≡ self.old) }
-        ensures steady { IsSteadyNet telling.old.line self.new }
-    {
-        let Some(at) = sink_at(&self.nodes, name) else {
-            return Err(LineReason::Absent);
+        let Ok(report) = node.switch_on(alloc, reading, switch) else {
+            return Err(NetFault::NoMemory);
         };
-        let node = &mut self.nodes[at].1;
-        match node.announce(reading, source) {
-            Some(sent) => {
-                telling.put(name, self.sent, sent);
-                self.sent += 1;
-            }
-            None => telling.say(
-                name,
-                Report::Drop {
-                    cause: Dropped::Plain(Cause::Unknown),
-                },
-            ),
-        }
-        Ok(())
+        telling.say(name, report);
+        Ok(None)
     }
 
     // The sink of this name lists its rows.
-    fn list(&mut self, telling: &mut Telling, reading: u64, name: &Name) -> Result<(), LineReason>
+    fn list(
+        &mut self,
+        telling: &mut Telling,
+        reading: u64,
+        name: &Name,
+    ) -> Result<Option<bool>, LineReason>
         requires ready { IsReady self.old telling.old }
         requires entries { 1025 ≤ vec_capacity telling.old.entries }
-        ensures comes { (model : World) → IsNetOf self.old model → ComesTo (steps.at_sink model telling.old.line reading name.now sink_lists) self.new telling.old telling.new result }
+        ensures comes { (model : World) → IsNetOf self.old model → ComesTo (λ bit. steps.at_sink model telling.old.line reading name.now lists) self.new telling.old telling.new result }
         ensures kept { OnErr result (self.new ≡ self.old) }
         ensures steady { IsSteadyNet telling.old.line self.new }
     {
@@ -275,7 +267,7 @@ impl Net {
         };
         let node = &mut self.nodes[at].1;
         node.list(reading, telling, name);
-        Ok(())
+        Ok(None)
     }
 
     // The device of this name sends a command.
@@ -285,11 +277,11 @@ impl Net {
         reading: u64,
         name: &Name,
         command: &[u8],
-    ) -> Result<(), LineReason>
+    ) -> Result<Option<bool>, LineReason>
         requires ready { IsReady self.old telling.old }
         requires some { 0 < length command.now }
         requires few { length command.now ≤ 104 }
-        ensures comes { (model : World) → IsNetOf self.old model → ComesTo (steps.at_device model telling.old.line reading name.now (device_presses command.now)) self.new telling.old telling.new result }
+        ensures comes { (model : World) → IsNetOf self.old model → ComesTo (λ bit. steps.at_device model telling.old.line reading name.now (device_presses command.now)) self.new telling.old telling.new result }
         ensures kept { OnErr result (self.new ≡ self.old) }
         ensures steady { IsSteadyNet telling.old.line self.new }
     {
@@ -299,17 +291,17 @@ impl Net {
         let node = &mut self.nodes[at].1;
         let Some(octets) = node.press(reading, command) else {
             telling.say(name, Report::End);
-            return Ok(());
+            return Ok(None);
         };
         telling.air(name, self.air.len() as u64, &octets);
         put_last(&mut self.air, octets);
-        Ok(())
+        Ok(None)
     }
 
     // Octets come on the air that no node sent.
     fn inject(&mut self, telling: &mut Telling, octets: &Octets)
         requires ready { IsReady self.old telling.old }
-        ensures comes { (model : World) → IsNetOf self.old model → ComesTo (Ok (injected model telling.old.line octets.now)) self.new telling.old telling.new (Ok tt) }
+        ensures comes { (model : World) → IsNetOf self.old model → ComesTo (λ bit. Ok (injected model telling.old.line octets.now)) self.new telling.old telling.new (Ok None) }
         ensures steady { IsSteadyNet telling.old.line self.new }
     {
         telling.inject(self.air.len() as u64, octets);
@@ -335,11 +327,11 @@ impl Net {
         if MOST <= sinks_among(&self.nodes) {
             return Err(NetFault::Bad(LineReason::Many));
         }
-        let Ok(sink) = new_sink(alloc, config) else {
+        let Ok(powered) = Powered::new(alloc, config) else {
             return Err(NetFault::NoMemory);
         };
         let node = Node {
-            kind: Kind::Sink(sink),
+            kind: Kind::Sink(powered),
             time: reading,
         };
         put_last(&mut self.nodes, (name.copy(), node));
@@ -368,20 +360,21 @@ impl Net {
         Ok(())
     }
 
-    /// Plays a line that makes a node, and any other by `happen`.
-    #[tactic(auto, unfolding(gp_ideal::specs::Step::acted_on))]
+    /// Plays a line that makes a node, or switches one on, and any other by `happen`.
+    #[tactic(auto, unfolding(gp_world::specs::Step::acted_on))]
     pub fn play(
         &mut self,
         alloc: Global,
         telling: &mut Telling,
         reading: u64,
         action: &Action,
-    ) -> Result<(), NetFault>
+    ) -> Result<Option<bool>, NetFault>
         requires ready { IsReady self.old telling.old }
         requires action { IsAction action.now }
         requires entries { NeedsRoom action.now (vec_capacity telling.old.entries) }
-        ensures comes { (model : World) → IsNetOf self.old model → ComesOf (steps.acted_on model telling.old.line reading action.now) self.new telling.old telling.new result }
-        ensures kept { OnErr result (self.new ≡ self.old) }
+        ensures comes { (model : World) → IsNetOf self.old model → ComesOf (λ bit. steps.acted_on model telling.old.line reading bit action.now) self.new telling.old telling.new result }
+        ensures left { IfErr result (λ fault. IsLeft action.now fault self.old self.new) }
+        ensures few { OnErr result ((line : ℕ) → IsSteadyNet line self.old → IsSteadyNet line self.new) }
         ensures steady { IsSteadyNet telling.old.line self.new }
     {
         match action {
@@ -395,7 +388,8 @@ impl Net {
                 shared,
             } => {
                 let config = config_of(*address, *ieee, *mode, *channel, link, shared);
-                self.add_sink(alloc, reading, name, config)
+                self.add_sink(alloc, reading, name, config)?;
+                Ok(None)
             }
             Action::Device {
                 name,
@@ -407,36 +401,44 @@ impl Net {
                 counter,
             } => {
                 let device = Device::new(*source, *key, *kind, *level, *device, *counter);
-                self.add_device(reading, name, device)
+                self.add_device(reading, name, device)?;
+                Ok(None)
+            }
+            Action::On { sink } => self.switch_on(alloc, telling, reading, sink, Switch::On),
+            Action::OnCut { sink, calls, way } => {
+                let switch = Switch::Flicker {
+                    calls: *calls,
+                    way: *way,
+                };
+                self.switch_on(alloc, telling, reading, sink, switch)
             }
             other => match self.happen(telling, reading, other) {
-                Ok(()) => Ok(()),
+                Ok(bit) => Ok(bit),
                 Err(reason) => Err(NetFault::Bad(reason)),
             },
         }
     }
 
-    // Plays a line that makes no node.
-    #[tactic(auto, unfolding(gp_ideal::specs::Step::acted_on))]
+    // Plays a line that makes no node and switches none on.
+    #[tactic(auto, unfolding(gp_world::specs::Step::acted_on))]
     fn happen(
         &mut self,
         telling: &mut Telling,
         reading: u64,
         action: &Action,
-    ) -> Result<(), LineReason>
+    ) -> Result<Option<bool>, LineReason>
         requires ready { IsReady self.old telling.old }
         requires action { IsAction action.now }
         requires kind { MakesNoNode action.now }
         requires entries { NeedsRoom action.now (vec_capacity telling.old.entries) }
-        ensures comes { (model : World) → IsNetOf self.old model → ComesTo (steps.acted_on model telling.old.line reading action.now) self.new telling.old telling.new result }
+        ensures comes { (model : World) → IsNetOf self.old model → ComesTo (λ bit. steps.acted_on model telling.old.line reading bit action.now) self.new telling.old telling.new result }
         ensures kept { OnErr result (self.new ≡ self.old) }
         ensures steady { IsSteadyNet telling.old.line self.new }
     {
         match action {
-            Action::Sink { .. } | Action::Device { .. } => unreachable!(),
             Action::Inject { frame } => {
                 self.inject(telling, frame);
-                Ok(())
+                Ok(None)
             }
             Action::Press { device, command } => {
                 self.press(telling, reading, device, command.as_slice())
@@ -446,22 +448,23 @@ impl Net {
                 node,
                 link: _,
             } => self.hear(telling, reading, *frame, node),
+            Action::Table { sink } => self.list(telling, reading, sink),
             other => self.at_sink(telling, reading, other),
         }
     }
 
-    // Plays a line in which a sink takes part that is there.
-    #[tactic(auto, unfolding(gp_ideal::specs::Step::acted_on))]
+    // Plays a line that asks something of a sink.
+    #[tactic(auto, unfolding(gp_world::specs::Step::acted_on, gp_world::specs::Step::reaches))]
     fn at_sink(
         &mut self,
         telling: &mut Telling,
         reading: u64,
         action: &Action,
-    ) -> Result<(), LineReason>
+    ) -> Result<Option<bool>, LineReason>
         requires ready { IsReady self.old telling.old }
+        requires action { IsAction action.now }
         requires kind { IsAtSink action.now }
-        requires entries { NeedsRoom action.now (vec_capacity telling.old.entries) }
-        ensures comes { (model : World) → IsNetOf self.old model → ComesTo (steps.acted_on model telling.old.line reading action.now) self.new telling.old telling.new result }
+        ensures comes { (model : World) → IsNetOf self.old model → ComesTo (λ bit. steps.acted_on model telling.old.line reading bit action.now) self.new telling.old telling.new result }
         ensures kept { OnErr result (self.new ≡ self.old) }
         ensures steady { IsSteadyNet telling.old.line self.new }
     {
@@ -476,7 +479,7 @@ impl Net {
                 counter,
             } => {
                 let offer = offer_of(*source, *key, *kind, *level, *device, *counter);
-                self.pair(telling, reading, sink, &offer)
+                self.ask(telling, reading, sink, Request::Pair(offer))
             }
             Action::Rule {
                 sink,
@@ -486,10 +489,36 @@ impl Net {
                 form,
             } => {
                 let rule = rule_of(*source, *command, *endpoint, form);
-                self.add_rule(telling, reading, sink, rule)
+                self.ask(telling, reading, sink, Request::Rule(rule))
             }
-            Action::Announce { sink, source } => self.announce(telling, reading, sink, *source),
-            Action::Table { sink } => self.list(telling, reading, sink),
+            Action::Announce { sink, source } => {
+                self.ask(telling, reading, sink, Request::Announce(*source))
+            }
+            Action::Cut {
+                sink,
+                commit,
+                calls,
+                way,
+            } => {
+                let request = Request::Cut {
+                    commit: *commit,
+                    calls: *calls,
+                    way: *way,
+                };
+                self.ask(telling, reading, sink, request)
+            }
+            Action::Fault {
+                sink,
+                commit,
+                calls,
+            } => {
+                let request = Request::Fault {
+                    commit: *commit,
+                    calls: *calls,
+                };
+                self.ask(telling, reading, sink, request)
+            }
+            Action::Off { sink } => self.ask(telling, reading, sink, Request::Off),
             _ => unreachable!(),
         }
     }

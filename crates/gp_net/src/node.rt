@@ -1,32 +1,27 @@
 //! The nodes of a network.
-ghost use Rattle.std.specs.Prelude.{◌≡◌, ◌<◌, ◌≤◌, ◌+◌, ◌-◌, ◌^◌, [], max, length, vec_capacity, true, false, IfSome};
-ghost use Rattle.gp_ideal.specs.Devices.{device_presses};
-ghost use Rattle.gp_ideal.specs.World as ideal;
-ghost use Rattle.gp_ideal.specs.Sinks.{sink_pairs, sink_rules, sink_announces};
-ghost use Rattle.gp_ideal.specs.Step.{node_hears};
-ghost use Rattle.gp_sink.specs.Sink.{GivesMessage, IsMessage};
-ghost use Rattle.gp_sink.specs.Verdict.{offered};
-ghost use Rattle.gp_net.specs.Made.{Makes, ListsAtSink, MakesAtSink, MakesAtDevice, says_heard, puts_heard, says_verdict, puts_verdict, says_ruled, puts_nothing, says_announced, puts_announced, says_pressed, airs_pressed};
+ghost use Rattle.std.specs.Prelude.{◌≡◌, ◌<◌, ◌≤◌, ◌+◌, ◌-◌, ◌^◌, ℕ, [], max, length, vec_capacity, true, false, IfOk, OnOk, OnErr};
+ghost use Rattle.gp_world.specs.Devices.{device_presses};
+ghost use Rattle.gp_world.specs.World as ideal;
+ghost use Rattle.gp_world.specs.Step.{node_hears};
+ghost use Rattle.gp_net.specs.Made.{MakesBy, ListsAtSink, MakesAtSink, MakesAtDevice, SwitchesSink, MayRearmKind, says_pressed, airs_pressed};
 ghost use Rattle.gp_net.specs.Inside.{is_kind_at, is_sink_kind};
-ghost use Rattle.gp_net.specs.Steady.{IsCalmKind, last_of};
+ghost use Rattle.gp_net.specs.Replies.{asked, says, puts, switched, IsReply, IsRequest, IsSwitch};
+ghost use Rattle.gp_net.specs.Steady.{IsFewKind};
 ghost use Rattle.gp_net.specs.Nodes.{IsKindOf};
 
 use crate::device::Device;
-use crate::sinks;
-use gp_base::{Octets, Src};
-use gp_cluster::Sent;
-use gp_commission::Offer;
-use gp_disk::MemoryDisk;
-use gp_script::{Name, RuleAnswer};
-use gp_sink::{Sink, Verdict};
+use crate::reply::{Reply, Request, Switch, replied, reply_to};
+use gp_base::{NoMemory, Octets};
+use gp_power::Powered;
+use gp_script::{Name, Report};
 use gp_telling::Telling;
-use gp_translate::Rule;
+use std::alloc::Global;
 
 /// What a node is.
 #[derive(Drop)]
 pub enum Kind {
-    /// A sink, over a disk in memory.
-    Sink(Sink<MemoryDisk>),
+    /// A sink, with its power.
+    Sink(Powered),
     /// A device.
     Device(Device),
 }
@@ -54,101 +49,93 @@ impl Kind {
         ensures { result ≡ is_kind_at address self.now }
     {
         match self {
-            Kind::Sink(sink) => sink.config().address == address,
+            Kind::Sink(powered) => powered.config().address == address,
             Kind::Device(_) => false,
         }
     }
 }
 
 impl Node {
-    /// Octets reach the node: the verdict of a sink. A device gives none, since it doesn't listen.
-    pub fn hear(&mut self, reading: u64, octets: &[u8]) -> Option<Verdict>
-        requires calm { IsCalmKind self.old.kind }
-        requires few { last_of self.old.kind < 2 ^ 64 - 1 }
-        ensures made { (model : ideal.Kind) → IsKindOf self.old.kind model → Makes (node_hears octets.now model) self.new.kind (says_heard result) (puts_heard result) [] }
+    /// Octets reach the node. A device closes them out, since it doesn't listen.
+    pub fn hear(&mut self, reading: u64, octets: &[u8]) -> (Reply, Option<bool>)
+        requires room { IsFewKind (2 ^ 64 - 2) self.old.kind }
+        ensures made { (model : ideal.Kind) → IsKindOf self.old.kind model → MakesBy (λ bit. node_hears octets.now bit model) self.new.kind (says result.0) (puts result.0) [] result.1 }
         ensures time { self.new.time ≡ max self.old.time reading }
-        ensures calm { IsCalmKind self.new.kind }
-        ensures last { last_of self.new.kind ≤ last_of self.old.kind + 1 }
-        ensures message { IfSome result GivesMessage }
+        ensures few { (most : ℕ) → IsFewKind most self.old.kind → IsFewKind (most + 2) self.new.kind }
+        ensures reply { IsReply result.0 }
     {
         self.time = self.time.max(reading);
         match &mut self.kind {
-            Kind::Sink(sink) => Some(sinks::hear(sink, octets)),
-            Kind::Device(_) => None,
+            Kind::Sink(powered) => {
+                let (answer, bit) = powered.hear(octets);
+                (replied(answer), bit)
+            }
+            Kind::Device(_) => (Reply::Report(Report::Closed), None),
         }
     }
 
-    /// A device is to be paired with a sink: its verdict.
-    pub fn pair(&mut self, reading: u64, offer: &Offer) -> Verdict
+    /// A line asks something of a sink.
+    pub fn ask(&mut self, reading: u64, request: Request) -> (Reply, Option<bool>)
         requires sink { is_sink_kind self.old.kind ≡ true }
-        requires calm { IsCalmKind self.old.kind }
-        requires few { last_of self.old.kind < 2 ^ 64 - 1 }
-        ensures made { MakesAtSink says_verdict puts_verdict (λ sink. sink_pairs (offered sink.config offer.now) offer.now.counter sink) self.old.kind self.new.kind result }
+        requires request { IsRequest request }
+        requires room { IsFewKind (2 ^ 64 - 2) self.old.kind }
+        ensures made { MakesAtSink (asked request) self.old.kind self.new.kind (says result.0) (puts result.0) result.1 }
         ensures time { self.new.time ≡ max self.old.time reading }
-        ensures calm { IsCalmKind self.new.kind }
-        ensures last { last_of self.new.kind ≤ last_of self.old.kind + 1 }
-        ensures message { GivesMessage result }
+        ensures few { (most : ℕ) → IsFewKind most self.old.kind → IsFewKind (most + 2) self.new.kind }
+        ensures reply { IsReply result.0 }
     {
         match &mut self.kind {
-            Kind::Sink(sink) => {
+            Kind::Sink(powered) => {
                 self.time = self.time.max(reading);
-                sinks::pair(sink, offer)
+                reply_to(powered, request)
             }
             Kind::Device(_) => unreachable!(),
         }
     }
 
-    /// A rule is to be added to a sink's.
-    pub fn add_rule(&mut self, reading: u64, rule: Rule) -> RuleAnswer
+    /// A sink is switched on. Where memory isn't found, another cut or fault may be armed at it.
+    pub fn switch_on(
+        &mut self,
+        alloc: Global,
+        reading: u64,
+        switch: Switch,
+    ) -> Result<Report, NoMemory>
         requires sink { is_sink_kind self.old.kind ≡ true }
-        requires calm { IsCalmKind self.old.kind }
-        ensures made { MakesAtSink says_ruled puts_nothing (sink_rules rule) self.old.kind self.new.kind result }
-        ensures time { self.new.time ≡ max self.old.time reading }
-        ensures calm { IsCalmKind self.new.kind }
-        ensures last { last_of self.new.kind ≡ last_of self.old.kind }
+        requires switch { IsSwitch switch }
+        ensures made { IfOk result (λ report. SwitchesSink (switched switch) self.old.kind self.new.kind report) }
+        ensures left { OnErr result (MayRearmKind self.old.kind self.new.kind) }
+        ensures time { OnOk result (self.new.time ≡ max self.old.time reading) }
+        ensures same_time { OnErr result (self.new.time ≡ self.old.time) }
+        ensures few { (most : ℕ) → IsFewKind most self.old.kind → IsFewKind most self.new.kind }
     {
         match &mut self.kind {
-            Kind::Sink(sink) => {
+            Kind::Sink(powered) => {
+                let report = match switch {
+                    Switch::On => powered.switch_on(alloc)?,
+                    Switch::Flicker { calls, way } => powered.flicker(alloc, calls, way)?,
+                };
                 self.time = self.time.max(reading);
-                sinks::add_rule(sink, rule)
+                Ok(report)
             }
             Kind::Device(_) => unreachable!(),
         }
     }
 
-    /// A sink's message of a current pairing, where there is one.
-    pub fn announce(&mut self, reading: u64, source: Src) -> Option<Sent>
-        requires sink { is_sink_kind self.old.kind ≡ true }
-        requires calm { IsCalmKind self.old.kind }
-        ensures made { MakesAtSink says_announced puts_announced (sink_announces source) self.old.kind self.new.kind result }
-        ensures time { self.new.time ≡ max self.old.time reading }
-        ensures calm { IsCalmKind self.new.kind }
-        ensures last { last_of self.new.kind ≡ last_of self.old.kind }
-        ensures message { IfSome result IsMessage }
-    {
-        match &mut self.kind {
-            Kind::Sink(sink) => {
-                self.time = self.time.max(reading);
-                sinks::announce(sink, source)
-            }
-            Kind::Device(_) => unreachable!(),
-        }
-    }
-
-    /// A sink lists its rows.
+    /// A sink lists its rows, or tells that it is dark.
     pub fn list(&mut self, reading: u64, telling: &mut Telling, name: &Name)
         requires sink { is_sink_kind self.old.kind ≡ true }
         requires untold { telling.old.entries.items ≡ [] }
         requires entries { 1025 ≤ vec_capacity telling.old.entries }
-        requires calm { IsCalmKind self.old.kind }
         ensures made { (model : ideal.Kind) → IsKindOf self.old.kind model → ListsAtSink name.now telling.old telling.new self.new.kind model }
         ensures time { self.new.time ≡ max self.old.time reading }
-        ensures calm { IsCalmKind self.new.kind }
-        ensures last { last_of self.new.kind ≡ last_of self.old.kind }
+        ensures few { (most : ℕ) → IsFewKind most self.old.kind → IsFewKind most self.new.kind }
     {
         match &self.kind {
-            Kind::Sink(sink) => {
-                telling.list(name, sink.rows());
+            Kind::Sink(powered) => {
+                match powered.rows() {
+                    Some(table) => telling.list(name, table),
+                    None => telling.say(name, Report::Dark),
+                }
                 self.time = self.time.max(reading);
             }
             Kind::Device(_) => unreachable!(),
@@ -162,8 +149,7 @@ impl Node {
         requires room { length command.now ≤ 104 }
         ensures made { MakesAtDevice says_pressed airs_pressed (device_presses command.now) self.old.kind self.new.kind result }
         ensures time { self.new.time ≡ max self.old.time reading }
-        ensures calm { IsCalmKind self.old.kind → IsCalmKind self.new.kind }
-        ensures last { last_of self.new.kind ≡ last_of self.old.kind }
+        ensures few { (most : ℕ) → IsFewKind most self.new.kind }
     {
         match &mut self.kind {
             Kind::Sink(_) => unreachable!(),
