@@ -8,7 +8,7 @@ ghost use Rattle.gp_app.specs.Leaves.{Completes, Leaves};
 ghost use Rattle.gp_lines.specs.Leaves.{Counts};
 ghost use Rattle.gp_listing.specs.Form.{listing_of};
 ghost use Rattle.gp_lines.specs.Leaves as lines;
-ghost use Rattle.gp_net.specs.World.{Stands};
+ghost use Rattle.gp_net.specs.World.{Stands, bits_of};
 ghost use Rattle.gp_packets.specs.Leaves as packets;
 ghost use Rattle.gp_simulation.specs.Playing as playing;
 ghost use Rattle.gp_simulation.specs.Playing.{Plays, StopsAt};
@@ -61,7 +61,7 @@ pub fn run<S: Source, O: Out, D: Disk>(
     ensures packets_complete { OnPcap (command_of words.now) (λ key. packets.Completes result.0 (S.left source.old) (S.faults source.old) (S.faults source.new) (O.faults out.old) (O.faults out.new)) }
     ensures packets_keep_the_disk { OnPcap (command_of words.now) (λ key. result.1 ≡ disk) }
 
-    ensures plays { OnSim (command_of words.now) (IsSomeAnd result.2 (λ world. lines.Leaves (Plays Stands) (StopsAt Stands) 0 world result.0
+    ensures plays { OnSim (command_of words.now) (IsSomeAnd result.2 (λ world. lines.Leaves (Plays Stands bits_of) (StopsAt Stands bits_of) 0 world result.0
         (S.left source.old) (S.left source.new) (O.written out.old) (O.written out.new))) }
     ensures plays_count { OnSim (command_of words.now) (Counts result.0 (S.faults source.old) (S.faults source.new) (O.faults out.old) (O.faults out.new)) }
     ensures plays_complete { OnSim (command_of words.now) (playing.Completes result.0 (S.left source.old) (S.faults source.old) (S.faults source.new) (O.faults out.old) (O.faults out.new)) }

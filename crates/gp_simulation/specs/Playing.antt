@@ -1,7 +1,6 @@
 -- A script played on the ideal network, and what a world has to do with it.
-use Rattle.std.specs.Prelude.{◌≡◌, ◌⊎◌, ℕ, suc, ◌+◌, List, [], ◌∷◌, ◌++◌, map, length, flat_map, Option, Some, None}
-use Rattle.std.specs.Option.{IsSome, option_and_then, option_map}
-use Rattle.std.specs.Result.{result_ok, result_err}
+use Rattle.std.specs.Prelude.{◌≡◌, ◌⊎◌, ℕ, ◌+◌, Bool, false, List, [], ◌∷◌, ◌++◌, map, length, flat_map, Option, Some, None}
+use Rattle.std.specs.Result.{result_err}
 use Rattle.std.specs.Str.Lines.{lines}
 use Rattle.gp_base.specs.Outside.{Rose}
 use Rattle.gp_script.specs.declared.reason.LineReason.{LineReason}
@@ -16,10 +15,10 @@ use Rattle.gp_lines.specs.declared.status.Status.TheVariants as ending
 use Rattle.gp_lines.specs.declared.work.Halt.{Halt}
 use Rattle.gp_lines.specs.declared.work.Halt.TheVariants.{Bad, NoMemory}
 use Rattle.gp_lines.specs.Lines.{AreWithin}
-use Rattle.gp_ideal.specs.Properties.{HasProperties}
-use Rattle.gp_ideal.specs.Run.{Moment, Run, world_after, events_of, report_of}
-use Rattle.gp_ideal.specs.Step.{step}
-use Rattle.gp_ideal.specs.World.{World, empty}
+use Rattle.gp_world.specs.Properties.{HasProperties}
+use Rattle.gp_world.specs.Run.{Moment, Run, world_after, events_of, report_of, bits_of}
+use Rattle.gp_world.specs.Step.{step}
+use Rattle.gp_world.specs.World.{World}
 
 -- what a line of a script asks for, where it has a form
 unfoldable pub asked : List ℕ → Option Event
@@ -33,35 +32,31 @@ line_of_entry entry = text_of entry ++ 10 ∷ []
 abbrev pub report_text : List Entry → List ℕ
 report_text report = flat_map line_of_entry report
 
--- Why a line that asks for this isn't played: it has no form, or the step refuses it.
+-- Why a line that asks for this isn't played: it has no form, or the step refuses it. The bit of the step says nothing of that.
 abbrev pub refusal : World → ℕ → Option Event → Option LineReason
 refusal world number None = Some Form
-refusal world number (Some event) = result_err (step world number event)
+refusal world number (Some event) = result_err (step world number event false)
 
--- the next world, where the line has a form and the step doesn't refuse it
-abbrev pub stepped : World → ℕ → Option Event → Option World
-stepped world number None = None
-stepped world number (Some event) = option_map (λ next. next.world) (result_ok (step world number event))
+-- the lines ask for the events of these moments
+abbrev pub AreOf : List (List ℕ) → List Moment → Type 0
+AreOf script moments = map asked script ≡ map (λ event. Some event) (events_of moments)
 
--- the world behind lines that ask for this, of which the first has this number, where each is played
-abbrev pub world_behind : World → ℕ → List (Option Event) → Option World
-world_behind world number [] = Some world
-world_behind world number (event ∷ others) = option_and_then (λ next. world_behind next (suc number) others) (stepped world number event)
-
--- each line of the script is played
+-- each line of the script is played: whatever the bits, no run of its first lines refuses the next
 abbrev pub IsPlayed : List (List ℕ) → Type 0
-IsPlayed script = IsSome (world_behind empty 1 (map asked script))
+IsPlayed script = (first : List (List ℕ)) (line : List ℕ) (others : List (List ℕ)) (moments : List Moment) →
+    script ≡ first ++ line ∷ others → Run moments → AreOf first moments → refusal (world_after moments) (length first + 1) (asked line) ≡ None
 
--- What a world has to do with a script, where `Stands` says for which ideal worlds a world stands.
-module _ {W : Type 0} (Stands : W → World → Type 0) where
-  -- The lines are those of a run of the ideal network, which has all the properties; the text is that of its report; and the world
-  -- stands for the last world of the run.
+-- What a world has to do with a script, where `Stands` says for which ideal worlds a world stands, and `bits` which bits its steps took.
+module _ {W : Type 0} (Stands : W → World → Type 0) (bits : W → List Bool) where
+  -- The lines are those of a run of the ideal network, which has all the properties; the text is that of its report; the world stands
+  -- for the last world of the run; and its bits are those of the run.
   pub record Plays (script : List (List ℕ)) (text : List ℕ) (world : W) : Type 0 where
     pub moments : List Moment
     pub run : Run moments
-    pub events : map asked script ≡ map (λ event. Some event) (events_of moments)
+    pub events : AreOf script moments
     pub text_is : text ≡ report_text (report_of moments)
     pub stands : Stands world (world_after moments)
+    pub bits_are : bits world ≡ bits_of moments
     pub properties : HasProperties moments
 
   -- Behind these lines, which give this text, this line stops the script. It is refused, and the world is as behind the others; or

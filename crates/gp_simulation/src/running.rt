@@ -1,7 +1,7 @@
 //! A whole script.
 
 ghost use Rattle.gp_lines.specs.Leaves.{Counts, Leaves};
-ghost use Rattle.gp_net.specs.World.{Stands};
+ghost use Rattle.gp_net.specs.World.{Stands, bits_of};
 ghost use Rattle.gp_simulation.specs.Playing.{Completes, Plays, StopsAt};
 
 use crate::simulation::Simulation;
@@ -19,7 +19,7 @@ use std::alloc::Global;
 /// the report of the lines that were played, or after WriteFault and NoMemory a front of it; after WriteFault no more of it is
 /// missing than what the last line reported. After NoMemory nothing is said of the world.
 pub fn simulate<S: Source, O: Out>(alloc: Global, source: &mut S, out: &mut O) -> (Status, World)
-    ensures leaves { Leaves (Plays Stands) (StopsAt Stands) 0 result.1 result.0 (S.left source.old) (S.left source.new) (O.written out.old) (O.written out.new) }
+    ensures leaves { Leaves (Plays Stands bits_of) (StopsAt Stands bits_of) 0 result.1 result.0 (S.left source.old) (S.left source.new) (O.written out.old) (O.written out.new) }
     ensures counts { Counts result.0 (S.faults source.old) (S.faults source.new) (O.faults out.old) (O.faults out.new) }
     ensures completes { Completes result.0 (S.left source.old) (S.faults source.old) (S.faults source.new) (O.faults out.old) (O.faults out.new) }
 {
@@ -28,7 +28,7 @@ pub fn simulate<S: Source, O: Out>(alloc: Global, source: &mut S, out: &mut O) -
 
 // The same, but for what it completes.
 fn play_lines<S: Source, O: Out>(alloc: Global, source: &mut S, out: &mut O) -> (Status, World)
-    ensures leaves { Leaves (Plays Stands) (StopsAt Stands) 0 result.1 result.0 (S.left source.old) (S.left source.new) (O.written out.old) (O.written out.new) }
+    ensures leaves { Leaves (Plays Stands bits_of) (StopsAt Stands bits_of) 0 result.1 result.0 (S.left source.old) (S.left source.new) (O.written out.old) (O.written out.new) }
     ensures counts { Counts result.0 (S.faults source.old) (S.faults source.new) (O.faults out.old) (O.faults out.new) }
 {
     let mut simulation = Simulation {

@@ -20,14 +20,14 @@ pub struct Simulation {
 
 impl Work for Simulation {
     ghost use Rattle.std.specs.Prelude.{◌<◌};
-    ghost use Rattle.gp_net.specs.World.{Stands, line_of};
+    ghost use Rattle.gp_net.specs.World.{Stands, bits_of, line_of};
     ghost use Rattle.gp_simulation.specs.Simulation.{Goes, Stops};
 
-    ghost goes = { λ old number line text new. Goes Stands old.world number line text new.world };
+    ghost goes = { λ old number line text new. Goes Stands bits_of old.world number line text new.world };
 
     ghost awaits = { λ work number. line_of work.world < number };
 
-    ghost stops = { λ old number line halt new. Stops Stands old.world number line halt new.world };
+    ghost stops = { λ old number line halt new. Stops Stands bits_of old.world number line halt new.world };
 
     fn take(&mut self, number: u64, line: &[u8], text: &mut Vec<u8>) -> Result<(), Halt> {
         let Ok(event) = read_event(line) else {
