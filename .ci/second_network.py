@@ -1,5 +1,6 @@
 """A second network: it plays scripts as docs/network.md and docs/formats.md say, and is written from these two pages alone. Its
 sinks are lists of changes and its cipher is that of .ci/secured; it shares nothing with the program."""
+import copy
 import importlib.machinery
 import importlib.util
 import os
@@ -14,12 +15,17 @@ round_keys, sealed = _secured.round_keys, _secured.sealed
 LAST_COUNTER = 2**32 - 1
 LAST_READING = 2**64 - 1 - 100_000_000
 MOST_NODES, MOST_ROWS, MOST_RULES = 64, 1024, 64
+MOST_COMMITS, MOST_CALLS = 1_000_000, 65_535
 INDIVIDUAL_KINDS = (4, 7)
 MODES = {"derived": 1, "group": 2, "unicast": 3}
 
 
 class Bad(Exception):
     """A line that ends the run, by its reason."""
+
+
+class NeedsBit(Exception):
+    """A line that settles whether a change is remembered, and no bit was given. Nothing was changed yet."""
 
 
 # ---- the words of a line
@@ -30,13 +36,14 @@ WORDS = {
     "name": r"[a-z][a-z0-9]{0,7}", "addr": r"[0-9A-Fa-f]{4}", "ieee": r"[0-9A-Fa-f]{16}", "src": r"[0-9A-Fa-f]{8}",
     "octet": r"[0-9A-Fa-f]{2}", "key": r"[0-9A-Fa-f]{32}", "link": r"[0-9A-Fa-f]{32}|-", "kind": r"[12347]", "level": r"[23]",
     "mode": r"derived|unicast|group:[0-9A-Fa-f]{4}", "channel": r"1[1-9]|2[0-6]", "any": r"[0-9A-Fa-f]{8}|any", "hex": HEX,
-    "number": DECIMAL,
+    "number": DECIMAL, "cut": "cut", "way": r"[0-4]",
 }
 FORMS = {
     "sink": ["name", "addr", "ieee", "mode", "channel", "link", "key"],
     "device": ["name", "src", "key", "kind", "level", "octet", "number"],
     "pair": ["name", "src", "key", "kind", "level", "octet", "number"],
     "press": ["name", "hex"], "inject": ["hex"], "hear": ["number", "name", "octet"], "announce": ["name", "src"], "table": ["name"],
+    "cut": ["name", "number", "number", "way"], "fault": ["name", "number", "number"], "on": ["name"], "off": ["name"],
 }
 TARGETS = {"table": [], "copy": ["addr", "octet"], "fixed": ["addr", "octet", "hex"]}
 
@@ -63,11 +70,15 @@ def form_of(line):
     keyword, rest = words[1], words[2:]
     if keyword == "rule":
         good = len(rest) > 4 and fits(["name", "any", "octet", "octet"], rest[:4]) and rest[4] in TARGETS and fits(TARGETS[rest[4]], rest[5:])
+    elif keyword == "on" and len(rest) > 1:
+        good = fits(["name", "cut", "number", "way"], rest) and int(rest[2]) <= MOST_CALLS
     else:
         good = keyword in FORMS and fits(FORMS[keyword], rest)
     if not good:
         raise Bad("Form")
     if keyword in ("device", "pair") and int(rest[-1]) > LAST_COUNTER or keyword == "hear" and int(rest[0]) > 2**64 - 1:
+        raise Bad("Form")
+    if keyword in ("cut", "fault") and not (1 <= int(rest[1]) <= MOST_COMMITS and int(rest[2]) <= MOST_CALLS):
         raise Bad("Form")
     if keyword == "press" and not 1 <= len(octets_of(rest[1])) <= 104:
         raise Bad("Form")
@@ -308,6 +319,14 @@ class Sink:
         # what can be read off the list of changes, kept so that long scripts end: rows, and of each its last Pair, whether it is
         # live and its floor; of each SrcID the row that was paired last
         self.pairs, self.values, self.live, self.floors, self.last = [], [], [], [], {}
+        # its power: "runs", "dark" or "halted"; the change that is open while it is halted; and what is armed: nothing, or "cut" or
+        # "fault", the commit counted from the next one, and the device calls
+        self.phase, self.open, self.armed = "runs", None, None
+
+    def known(self):
+        """All of it that a later line can show."""
+        return (self.address, self.phase, self.open, self.armed, tuple(self.pairs), tuple(self.values), tuple(self.live), tuple(self.floors),
+                tuple(sorted(self.last.items())), len(self.rules))
 
     def change(self, change):
         self.ledger.append(change)
@@ -347,7 +366,7 @@ class Device:
 
 class Network:
     def __init__(self):
-        self.air, self.messages, self.nodes, self.report, self.schedules = [], 0, {}, [], {}
+        self.air, self.messages, self.nodes, self.report, self.schedules, self.bits = [], 0, {}, [], {}, []
 
     def say(self, number, name, text):
         self.report.append(f"{number} {name} {text}")
@@ -380,6 +399,37 @@ class Network:
             self.schedules[key] = round_keys(key)
         return self.schedules[key]
 
+    def bit(self):
+        """The next of the bits that were given."""
+        if not self.bits:
+            raise NeedsBit
+        return self.bits.pop(0)
+
+    def befallen(self, number, name, sink, change):
+        """Whether a cut or a fault befalls the commit of a change. Then that is said, and nothing else is."""
+        if sink.armed is None:
+            return False
+        what, commit, calls = sink.armed
+        if commit > 1:
+            sink.armed = what, commit - 1, calls
+            return False
+        if what == "cut":
+            remembered = self.bit() if calls < 16 else True
+            sink.armed, sink.phase = None, "dark"
+            if remembered:
+                sink.change(change)
+            self.say(number, name, "cut")
+        else:
+            sink.armed, sink.phase, sink.open = None, "halted", change
+            self.say(number, name, "halted")
+        return True
+
+    def unable(self, number, name, sink):
+        """Whether a sink is dark or halted, and says so."""
+        if sink.phase != "runs":
+            self.say(number, name, sink.phase)
+        return sink.phase != "runs"
+
     def heard(self, number, name, sink, octets):
         frame = Frame(octets)
         if frame.fault is not None:
@@ -401,6 +451,8 @@ class Network:
             return self.say(number, name, "drop BadTag")
         if frame.counter <= sink.floors[row]:
             return self.say(number, name, f"drop Stale {sink.floors[row]}")
+        if self.befallen(number, name, sink, ("retire" if command[0] == 0xE1 else "accept", row, frame.counter)):
+            return None
         if command[0] == 0xE1:
             sink.change(("retire", row, frame.counter))
             self.say(number, name, f"unpaired {row} {frame.source:08X} {frame.counter}")
@@ -415,6 +467,8 @@ class Network:
 
     def paired(self, number, name, words):
         sink = self.node(name, Sink)
+        if self.unable(number, name, sink):
+            return
         source, key, kind, level, device, counter = words
         source, key, counter = int(source, 16), bytes.fromhex(key), int(counter)
         if not 1 <= source <= 0xFFFFFFF8:
@@ -424,7 +478,10 @@ class Network:
         if (source, key) not in sink.pairs and len(sink.pairs) >= MOST_ROWS:
             return self.say(number, name, "refused TableFull")
         group = {1: derived_group(source), 2: sink.group, 3: 0}[sink.mode]
-        row = sink.change(("pair", source, key, int(kind), int(level), sink.mode, group, int(device, 16), counter))
+        change = "pair", source, key, int(kind), int(level), sink.mode, group, int(device, 16), counter
+        if self.befallen(number, name, sink, change):
+            return
+        row = sink.change(change)
         self.say(number, name, f"paired {row} {source:08X} {sink.floors[row]}")
         self.put(number, name, sink.pairing(row))
 
@@ -451,10 +508,13 @@ class Network:
             raise Bad("Missing")
         if isinstance(node, Device):
             return self.say(number, name, "closed")
-        self.heard(number, name, node, self.air[frame])
+        if not self.unable(number, name, node):
+            self.heard(number, name, node, self.air[frame])
 
     def tabled(self, number, name):
         sink = self.node(name, Sink)
+        if sink.phase == "dark":
+            return self.say(number, name, "dark")
         self.say(number, name, f"rows {len(sink.pairs)}")
         for row, (source, _) in enumerate(sink.pairs):
             _, _, _, kind, level, mode, group, device, _ = sink.values[row]
@@ -462,10 +522,35 @@ class Network:
 
     def announced(self, number, name, source):
         sink = self.node(name, Sink)
+        if self.unable(number, name, sink):
+            return
         row = sink.current(source)
         if row is None:
             return self.say(number, name, "drop Unknown")
         self.put(number, name, sink.pairing(row))
+
+    def armed(self, number, name, what):
+        self.node(name, Sink).armed = what
+        self.say(number, name, "armed")
+
+    def switched_off(self, number, name):
+        sink = self.node(name, Sink)
+        if sink.phase == "dark":
+            return self.say(number, name, "dark")
+        if sink.phase == "halted" and self.bit():
+            sink.change(sink.open)
+        sink.phase, sink.open = "dark", None
+        self.say(number, name, "off")
+
+    def switched_on(self, number, name, is_cut):
+        sink = self.node(name, Sink)
+        if sink.phase != "dark":
+            return self.say(number, name, "running")
+        if is_cut:
+            sink.armed = None
+            return self.say(number, name, "cut")
+        sink.phase = "runs"
+        self.say(number, name, f"up {len(sink.pairs)}")
 
     def step(self, number, line):
         form = form_of(line)
@@ -488,6 +573,12 @@ class Network:
             self.ruled(number, words[0], words[1:])
         elif keyword == "announce":
             self.announced(number, words[0], int(words[1], 16))
+        elif keyword in ("cut", "fault"):
+            self.armed(number, words[0], (keyword, int(words[1]), int(words[2])))
+        elif keyword == "on":
+            self.switched_on(number, words[0], len(words) > 1)
+        elif keyword == "off":
+            self.switched_off(number, words[0])
         else:
             self.tabled(number, words[0])
 
@@ -498,12 +589,56 @@ def lines_of(script):
     return [line[:-1] if line.endswith("\r") else line for line in ended] + ([last] if last else [])
 
 
-def played(script):
-    """The report of a script, and the text of its status: nothing where it was played to its end."""
+def played(script, bits=()):
+    """The report of a script by these bits, and the text of its status: nothing where it was played to its end."""
     network = Network()
+    network.bits = list(bits)
     for number, line in enumerate(lines_of(script), 1):
         try:
             network.step(number, line)
         except Bad as bad:
             return network.report, f"gp: bad line {number}: {bad}\n"
     return network.report, ""
+
+
+# ---- reports that some list of bits explains
+
+def stepped(network, number, line):
+    """Every network that a line leaves, by either bit where it takes one, each with what the line reports of it alone."""
+    network.report = []
+    try:
+        network.step(number, line)
+        return [network]
+    except NeedsBit:
+        other = copy.deepcopy(network)
+        network.bits, other.bits = [False], [True]
+        network.report, other.report = [], []
+        network.step(number, line)
+        other.step(number, line)
+        return [network, other]
+
+
+def explained(script, report):
+    """The first line whose report no list of bits explains, with what it might have been, or nothing; and the text of the status."""
+    by_line = {}
+    for line in report:
+        by_line.setdefault(line.split(" ")[0], []).append(line)
+    networks = [Network()]
+    for number, line in enumerate(lines_of(script), 1):
+        wanted, might, left, reason = by_line.pop(str(number), []), [], {}, None
+        for network in networks:
+            try:
+                after = stepped(network, number, line)
+            except Bad as bad:
+                reason = str(bad)
+                continue
+            might += [other.report for other in after]
+            for other in after:
+                if other.report == wanted:
+                    left.setdefault((other.messages, tuple(node.known() for node in other.nodes.values() if isinstance(node, Sink))), other)
+        if reason is not None:
+            return (None if not by_line and not wanted else (number, [])), f"gp: bad line {number}: {reason}\n"
+        if not left:
+            return (number, might), ""
+        networks = list(left.values())
+    return (min(by_line), []) if by_line else None, ""
