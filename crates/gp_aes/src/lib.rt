@@ -9,6 +9,3 @@ mod schedule;
 mod tables;
 
 pub use schedule::Schedule;
-
-#[cfg(test)]
-mod tests;

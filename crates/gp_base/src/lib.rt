@@ -29,6 +29,3 @@ pub use reader::Reader;
 pub use steps::Steps;
 pub use word::Word;
 pub use write_out::WriteOut;
-
-#[cfg(test)]
-mod tests;

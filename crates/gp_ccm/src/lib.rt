@@ -12,6 +12,3 @@ mod stream;
 
 pub use sealing::{BadTag, Sealed, seal, unseal};
 pub use size::TagSize;
-
-#[cfg(test)]
-mod tests;

@@ -29,6 +29,3 @@ mod writing;
 pub use command::{CommandReason, Commissioning, GpdCommand, Reply};
 pub use reading::read;
 pub use writing::{sound, write};
-
-#[cfg(test)]
-mod tests;

@@ -17,6 +17,3 @@ pub use running::run_lines;
 pub use status::{DiskReason, Status};
 pub use work::{Halt, Work};
 pub use writing::{last_words, write_all};
-
-#[cfg(test)]
-mod tests;

@@ -11,6 +11,3 @@ mod pcap;
 
 pub use packet::{Packet, PcapReason};
 pub use pcap::Pcap;
-
-#[cfg(test)]
-mod tests;

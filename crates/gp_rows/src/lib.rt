@@ -10,6 +10,3 @@ mod table;
 
 pub use row::Row;
 pub use table::{ROWS, Table, TableFull};
-
-#[cfg(test)]
-mod tests;

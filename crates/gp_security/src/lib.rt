@@ -15,6 +15,3 @@ pub use frame::{seal_frame, unseal_frame};
 pub use gp_ccm::BadTag;
 pub use notice::from_notice;
 pub use wrapping::{Way, Wrapped, unwrap_key, wrap_key};
-
-#[cfg(test)]
-mod tests;

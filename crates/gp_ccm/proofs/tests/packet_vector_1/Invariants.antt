@@ -1,4 +1,0 @@
-use Rattle.gp_ccm.proofs.tests.packet_vector_1.Given as goal
-
-abbrev pub ghosts-check : goal.ghosts-check
-ghosts-check g a = record { name = a.blank.name; parts = a.blank.parts }
