@@ -1,6 +1,6 @@
 //! Names of nodes.
 
-ghost use Rattle.std.specs.Prelude.{◌≡◌, None, Some, length, if◌then◌else◌};
+ghost use Rattle.std.specs.Prelude.{◌≡◌, None, Some, codes, length, if◌then◌else◌};
 ghost use Rattle.gp_script.specs.Kinds as spec;
 
 use arrayvec::ArrayVec;
@@ -43,6 +43,16 @@ impl Name {
         match ArrayVec::try_from(word) {
             Ok(letters) => Some(Name { letters }),
             Err(_) => None,
+        }
+    }
+
+    /// The name of a sink that lives by itself: `sink`.
+    pub fn own() -> Name
+        ensures { result ≡ codes "sink" }
+    {
+        match ArrayVec::try_from(b"sink".as_slice()) {
+            Ok(letters) => Name { letters },
+            Err(_) => unreachable!(),
         }
     }
 

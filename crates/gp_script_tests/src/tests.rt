@@ -36,6 +36,7 @@ fn lines_of_another_form_are_none(rt: HostRuntime) {
         "5",
         "5 hear 1 lamp 1",
         "5 hear 1 Lamp 10",
+        "5 hear 1 4lamp 10",
         "5 hear 1 lamp 10 ",
         "+5 hear 1 lamp 10",
         "5 press d -",
