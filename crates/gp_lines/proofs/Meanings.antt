@@ -1,14 +1,14 @@
 -- What a run leaves, said of another meaning of the same work; and where nothing stops it.
-use Rattle.std.proofs.Common.{◌≡◌, ℕ, ◌⊎◌, inl, inr, List, [], ◌++◌, length, Option, Some, None, refl, ap, arith}
+use Rattle.std.proofs.Common.{◌≡◌, ℕ, suc, ◌≤◌, ◌⊎◌, inl, inr, List, [], ◌∷◌, ◌++◌, length, Option, Some, None, refl, ap, subst, arith}
 use Rattle.std.specs.Str.Lines.{lines}
 use Rattle.std.specs.Io.KnownBytes.{Consumes}
-use Rattle.std.proofs.lemmas.List.{append-nil}
+use Rattle.std.proofs.lemmas.List.{append-nil, length-append}
 use Rattle.gp_base.specs.Outside.{one_more, Rose}
 use Rattle.gp_lines.specs.declared.status.Status.{Status}
 use Rattle.gp_lines.specs.declared.status.Status.TheVariants as ending
 use Rattle.gp_lines.specs.declared.work.Halt.{Halt}
 use Rattle.gp_lines.specs.declared.work.Halt.TheVariants.{Bad, DiskFault, DiskRefused, Worn, NoMemory}
-use Rattle.gp_lines.specs.Lines.{IsBeyond, IsWithin}
+use Rattle.gp_lines.specs.Lines.{AreNarrow, AreWithin, IsBeyond, IsWithin}
 use Rattle.gp_lines.specs.Leaves.{Settles, Next, NextBeyond, Halted, Fits, Leaves, Counts}
 
 module _ {S S' : Type 0} (part : S → S') (ran : List (List ℕ) → List ℕ → S → Type 0) (ran' : List (List ℕ) → List ℕ → S' → Type 0)
@@ -74,6 +74,20 @@ module _ {S : Type 0} (ran ran' : List (List ℕ) → List ℕ → S → Type 0)
 -- a count that is one more rose
 pub rose : (before after : ℕ) → after ≡ one_more before → Rose before after
 rose before after e = rw e (omega arith)
+
+narrow-at : (ended : List (List ℕ)) (line : List ℕ) (others : List (List ℕ)) → AreNarrow (ended ++ line ∷ others) → length line ≤ 1024
+narrow-at [] line others h = h 0 [] (omega arith)
+narrow-at (x ∷ ended) line others h = narrow-at ended line others (λ k d b. h (suc k) d (omega arith))
+
+-- no line is beyond the limits
+pub unbeyond : (ended : List (List ℕ)) (line : List ℕ) (others all : List (List ℕ)) → all ≡ ended ++ line ∷ others → AreWithin all → IsBeyond (length ended) line → ⊥
+unbeyond ended line others all e within (inl many) =
+    let longer = length-append ended (line ∷ others) in
+    let few : length (ended ++ line ∷ others) ≤ 1000000 = subst (λ (ls : List (List ℕ)). length ls ≤ 1000000) e within.0 in
+    omega (arith, longer, few, many)
+unbeyond ended line others all e within (inr wide) =
+    let narrow = narrow-at ended line others (subst (λ (ls : List (List ℕ)). AreNarrow ls) e within.1) in
+    omega (arith, narrow, wide)
 
 module _ {S : Type 0} (ran : List (List ℕ) → List ℕ → S → Type 0) (halts : List (List ℕ) → List ℕ → List ℕ → Halt → S → Type 0) (held : ℕ) (new : S) where
   -- what is settled is so of the whole input

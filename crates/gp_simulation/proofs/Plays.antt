@@ -10,7 +10,8 @@ use Rattle.gp_world.specs.Run.{Moment, Run, world_after, events_of, report_of, b
 use Rattle.gp_world.specs.Step.{step}
 use Rattle.gp_world.specs.World.{World, empty}
 use Rattle.gp_world.proofs.EveryRun.{every_run}
-use Rattle.gp_simulation.specs.Playing.{asked, line_of_entry, report_text, AreOf, Plays, StopsAt}
+use Rattle.gp_telling.specs.Texts.{line_of_entry, report_text}
+use Rattle.gp_simulation.specs.Playing.{asked, AreOf, Plays, StopsAt}
 use Rattle.gp_simulation.specs.Simulation.{Goes, Stops}
 
 -- A part of the work is the world, which stands for ideal ones.

@@ -1,14 +1,13 @@
 -- A script played on the ideal network, and what a world has to do with it.
-use Rattle.std.specs.Prelude.{◌≡◌, ◌⊎◌, ℕ, ◌+◌, Bool, false, List, [], ◌∷◌, ◌++◌, map, length, flat_map, Option, Some, None}
+use Rattle.std.specs.Prelude.{◌≡◌, ◌⊎◌, ℕ, ◌+◌, Bool, false, List, [], ◌∷◌, ◌++◌, map, length, Option, Some, None}
 use Rattle.std.specs.Result.{result_err}
 use Rattle.std.specs.Str.Lines.{lines}
 use Rattle.gp_base.specs.Outside.{Rose}
 use Rattle.gp_script.specs.declared.reason.LineReason.{LineReason}
 use Rattle.gp_script.specs.declared.reason.LineReason.TheVariants.{Form}
-use Rattle.gp_script.specs.declared.report.Entry.{Entry}
 use Rattle.gp_script.specs.declared.script.Event.{Event}
-use Rattle.gp_script.specs.Report.{text_of}
 use Rattle.gp_script.specs.Script.{event_of}
+use Rattle.gp_telling.specs.Texts.{report_text}
 use Rattle.gp_lines.specs.declared.status.Status.{Status}
 use Rattle.gp_lines.specs.declared.status.Status.TheVariants.{Done}
 use Rattle.gp_lines.specs.declared.status.Status.TheVariants as ending
@@ -23,14 +22,6 @@ use Rattle.gp_world.specs.World.{World}
 -- what a line of a script asks for, where it has a form
 unfoldable pub asked : List ℕ → Option Event
 asked line = event_of line
-
--- the line of an entry, with an LF
-unfoldable pub line_of_entry : Entry → List ℕ
-line_of_entry entry = text_of entry ++ 10 ∷ []
-
--- the text of a report
-abbrev pub report_text : List Entry → List ℕ
-report_text report = flat_map line_of_entry report
 
 -- Why a line that asks for this isn't played: it has no form, or the step refuses it. The bit of the step says nothing of that.
 abbrev pub refusal : World → ℕ → Option Event → Option LineReason

@@ -6,7 +6,8 @@ use Rattle.gp_lines.specs.declared.work.Halt.TheVariants.{Bad, NoMemory}
 use Rattle.gp_world.specs.Run.{IsRight, bit_taken}
 use Rattle.gp_world.specs.Step.{step}
 use Rattle.gp_world.specs.World.{World, Next}
-use Rattle.gp_simulation.specs.Playing.{asked, report_text, refusal}
+use Rattle.gp_simulation.specs.Playing.{asked, refusal}
+use Rattle.gp_telling.specs.Texts.{report_text}
 
 module _ {W : Type 0} (Stands : W → World → Type 0) (bits : W → List Bool) where
   -- the line is one step of the ideal world, by a bit that is right: the text is that of its entries, and the world stands for the next one

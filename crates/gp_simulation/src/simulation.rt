@@ -1,12 +1,9 @@
 //! The playing of a script as a work that takes its lines.
 
-ghost use Rattle.std.specs.Prelude.{◌≡◌, ◌++◌, OnOk};
-ghost use Rattle.gp_simulation.specs.Playing.{line_of_entry, report_text};
-
-use gp_base::NoMemory;
 use gp_lines::{Halt, Work};
 use gp_net::{NetFault, World};
-use gp_script::{Entry, LineReason, print_entry, read_event};
+use gp_script::{LineReason, read_event};
+use gp_telling::put_report;
 use std::alloc::Global;
 
 /// A world on which a script is played.
@@ -43,31 +40,4 @@ impl Work for Simulation {
             Err(_) => Err(Halt::NoMemory),
         }
     }
-}
-
-// Adds the text of a report.
-fn put_report(alloc: Global, report: &[Entry], text: &mut Vec<u8>) -> Result<(), NoMemory>
-    ensures { OnOk result (text.new.items ≡ text.old.items ++ report_text report.now) }
-{
-    let mut rest = report;
-    'entries: while let Some((entry, others)) = rest.split_first() {
-        put_entry(alloc, entry, text)?;
-        rest = others;
-    }
-    Ok(())
-}
-
-// Adds the line of an entry, with an LF.
-#[tactic(auto, unfolding(crate::specs::Playing::line_of_entry))]
-fn put_entry(alloc: Global, entry: &Entry, text: &mut Vec<u8>) -> Result<(), NoMemory>
-    ensures { OnOk result (text.new.items ≡ text.old.items ++ line_of_entry entry.now) }
-{
-    let line = print_entry(alloc, entry)?;
-    if text.extend_from_slice(line.as_slice()).is_err() {
-        return Err(NoMemory);
-    }
-    if text.push(b'\n').is_err() {
-        return Err(NoMemory);
-    }
-    Ok(())
 }

@@ -3,8 +3,12 @@ use Rattle.std.proofs.Common.{◌≡◌, ℕ, zero, suc, ◌+◌, ◌<◌, ◌�
 use Rattle.std.specs.Prelude.{vec_capacity}
 use Rattle.std.proofs.lemmas.List.{length-map, length-take-le, map-append}
 use Rattle.gp_rows.specs.declared.row.Row.{Row}
+use Rattle.gp_ideal.specs.declared.ledger.Change.{Change}
+use Rattle.gp_ideal.specs.Ledger.{rows}
+use Rattle.gp_sink.specs.Fits.{Fits, IsRow, pairing_in}
 use Rattle.gp_script.specs.declared.report.Report.{Report}
 use Rattle.gp_script.specs.declared.report.Report.TheVariants.{Rows}
+use Rattle.gp_world.specs.Sinks.{row_reports}
 use Rattle.gp_world.specs.World.{entries}
 use Rattle.gp_telling.specs.declared.telling.Telling.{Telling}
 use Rattle.gp_telling.specs.Telling.{Said, listed, listed_row}
@@ -53,3 +57,20 @@ listed_on node k next table row first old between new e n a b =
     let all : listed 0 (take next table) ≡ listed 0 (take k table) ++ listed_row k row ∷ [] =
     ap (λ (m : ℕ). listed 0 (take m table)) more ∙ listed_more 0 k table row e ∙ ap (λ (m : ℕ). listed 0 (take k table) ++ listed_row m row ∷ []) none in
     subst (λ (reports : List Report). Said node reports old new) (ap (λ (rest : List Report). first ∷ rest) (sym all)) (said_more node (first ∷ listed 0 (take k table)) (listed_row k row ∷ []) old between new a b)
+
+-- ---- the rows of a sink are those of its ledger
+
+rows_listed : (ledger : List Change) (at : ℕ) (table : List Row) → ((k : ℕ) (row : Row) → slice_get table k ≡ Some row → IsRow ledger (at + k) row) → row_reports ledger at (map pairing_in table) ≡ listed at table
+rows_listed ledger at [] h = refl
+rows_listed ledger at (row ∷ others) h =
+    let none : at + 0 ≡ at = omega arith in
+    let here : IsRow ledger at row = subst (λ (n : ℕ). IsRow ledger n row) none (h 0 row refl) in
+    let rest : row_reports ledger (suc at) (map pairing_in others) ≡ listed (suc at) others =
+    rows_listed ledger (suc at) others (λ k r e. let further : at + suc k ≡ suc at + k = omega arith in subst (λ (n : ℕ). IsRow ledger n r) further (h (suc k) r e)) in
+    rw (here.values, here.is_live, here.has_floor, rest) refl
+
+pub all_listed : (ledger : List Change) (table : List Row) → Fits table ledger → (Rows (length (rows ledger)) ∷ row_reports ledger 0 (rows ledger)) ≡ Rows (length table) ∷ listed 0 table
+all_listed ledger table h =
+    sym (ap (λ (pairs : List _). Rows (length pairs) ∷ row_reports ledger 0 pairs) h.pairs)
+    ∙ ap (λ (n : ℕ). Rows n ∷ row_reports ledger 0 (map pairing_in table)) (length-map table pairing_in)
+    ∙ ap (λ (reports : List Report). Rows (length table) ∷ reports) (rows_listed ledger 0 table (λ k row e. let none : k ≡ 0 + k = omega arith in subst (λ (n : ℕ). IsRow ledger n row) none (h.each k row e)))

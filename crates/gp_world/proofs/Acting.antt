@@ -110,7 +110,7 @@ acts_on_fresh moment earlier steps name powered octets k counter command h passe
 -- ---- nothing else is taken
 
 -- none of these reports says that a counter was taken
-abbrev TakeNothing : List Report → Type 0
+abbrev pub TakeNothing : List Report → Type 0
 TakeNothing rs = (i : ℕ) (report : Report) → slice_get rs i ≡ Some report → taken_in report ≡ None
 
 nothing_none : TakeNothing []
@@ -120,10 +120,10 @@ nothing_more : (first : Report) (rs : List Report) → taken_in first ≡ None �
 nothing_more first rs none rest zero report e = let same : first ≡ report = cc in ap taken_in (sym same) ∙ none
 nothing_more first rs none rest (suc i) report e = rest i report e
 
-nothing_both : (xs ys : List Report) → TakeNothing xs → TakeNothing ys → TakeNothing (xs ++ ys)
+pub nothing_both : (xs ys : List Report) → TakeNothing xs → TakeNothing ys → TakeNothing (xs ++ ys)
 nothing_both xs ys h k i report e = elim (which_list xs ys i report e) [ inl at ↦ h i report at | inr at ↦ k at.0 report at.1 ]
 
-steady-nothing : (rs : List Report) → AreSteady rs → TakeNothing rs
+pub steady-nothing : (rs : List Report) → AreSteady rs → TakeNothing rs
 steady-nothing [] h = nothing_none
 steady-nothing (report ∷ rs) h = nothing_more report rs h.0.takes (steady-nothing rs h.1)
 
@@ -135,7 +135,7 @@ one_nothing : (report : Report) → taken_in report ≡ None → TakeNothing (re
 one_nothing report none = nothing_more report [] none nothing_none
 
 -- what a verdict's reports say was taken is what it takes
-verdict-takes : (verdict : Verdict) (i : ℕ) (report : Report) (taken : ℕ × ℕ) → slice_get (verdict_reports verdict) i ≡ Some report → taken_in report ≡ Some taken → taken_by verdict ≡ Some taken
+pub verdict-takes : (verdict : Verdict) (i : ℕ) (report : Report) (taken : ℕ × ℕ) → slice_get (verdict_reports verdict) i ≡ Some report → taken_in report ≡ Some taken → taken_by verdict ≡ Some taken
 verdict-takes (Acted row source counter command done) zero report taken e t =
     let same : reports.Acted row source counter command (length done) ≡ report = cc in ap taken_in same ∙ t
 verdict-takes (Acted row source counter command done) (suc i) report taken e t = absurd (let none = steady-nothing (map act_report done) (acts-steady done) i report e in cc)
@@ -171,21 +171,21 @@ is_entry line name (report ∷ rs) zero entry e =
     record { i = 0; there = ap (λ (x : Entry). Some x.report) same; node = ap (λ (x : Entry). x.node) (sym same) }
 is_entry line name (report ∷ rs) (suc i) entry e = let later = is_entry line name rs i entry e in record { i = suc later.i; there = later.there; node = later.node }
 
-some_none : (o : Option (ℕ × ℕ)) (taken : ℕ × ℕ) → o ≡ None → o ≡ Some taken → ⊥
+pub some_none : (o : Option (ℕ × ℕ)) (taken : ℕ × ℕ) → o ≡ None → o ≡ Some taken → ⊥
 some_none o taken none some = cc
 
 -- no entry of a quiet line takes anything
-quiet-line : (line : ℕ) (name : Option (List ℕ)) (rs : List Report) → TakeNothing rs → (i : ℕ) (entry : Entry) (own : List ℕ) (row counter : ℕ) → slice_get (entries line name rs) i ≡ Some entry →
+pub quiet-line : (line : ℕ) (name : Option (List ℕ)) (rs : List Report) → TakeNothing rs → (i : ℕ) (entry : Entry) (own : List ℕ) (row counter : ℕ) → slice_get (entries line name rs) i ≡ Some entry →
     Takes own row counter entry → ⊥
 quiet-line line name rs none i entry own row counter e t =
     let is = is_entry line name rs i entry e in
     some_none (taken_in entry.report) (row, counter) (none is.i entry.report is.there) t.taken
 
 -- where a device is to be paired nothing is taken
-abbrev TakesNone : Ruling → Type 0
+abbrev pub TakesNone : Ruling → Type 0
 TakesNone ruling = TakeNothing (verdict_reports ruling.verdict)
 
-pairs-quiet : (config : Config) (ledger : List Change) (values : Values) (counter : ℕ) → TakesNone (paired config ledger values counter)
+pub pairs-quiet : (config : Config) (ledger : List Change) (values : Values) (counter : ℕ) → TakesNone (paired config ledger values counter)
 pairs-quiet config ledger values counter =
     paired-carries TakesNone config ledger values counter (λ reason. one_nothing (reports.Refused reason) refl) (one_nothing _ refl) (one_nothing _ refl)
 

@@ -48,17 +48,17 @@ HasOctets (Line reading action) = ActionOctets action
 
 -- ---- words
 
-abbrev Reads : {A : Type 0} → Kind A → (A → Type 0) → Type 0
+abbrev pub Reads : {A : Type 0} → Kind A → (A → Type 0) → Type 0
 Reads {A} kind P = (word : List ℕ) (value : A) → kind.read word ≡ Some value → P value
 
-anything : {A : Type 0} (kind : Kind A) → Reads kind (λ value. Unit {0})
+pub anything : {A : Type 0} (kind : Kind A) → Reads kind (λ value. Unit {0})
 anything kind word value e = tt
 
 decoded : (word value : List ℕ) (r : Result (List ℕ) FromHexError) → decode_of word ≡ r → result_ok r ≡ Some value → IsOctets value
 decoded word value (Err e) is t = absurd cc
 decoded word value (Ok bytes) is t = let same : bytes ≡ value = cc in subst IsOctets same (decode_of-ok word bytes is).3
 
-octets-read : (word value : List ℕ) → octets_in word ≡ Some value → IsOctets value
+pub octets-read : (word value : List ℕ) → octets_in word ≡ Some value → IsOctets value
 unfolding octets_in
 octets-read word value e = go (bytes_eq word (codes "-")) (nat_le 1 (length word) && nat_le (length word) 254) e
   where
@@ -124,15 +124,15 @@ way-read word value e = number-read 4 word value e
 
 -- ---- words in a row
 
-abbrev Gives : {B : Type 0} → Parse B → (B → Type 0) → Type 0
+abbrev pub Gives : {B : Type 0} → Parse B → (B → Type 0) → Type 0
 Gives {B} parse P = (ws : List (List ℕ)) (value : B) (rest : List (List ℕ)) → parse ws ≡ Some (value, rest) → P value
 
-nothing_gives : {B : Type 0} (made : B) (P : B → Type 0) → P made → Gives (nothing made) P
+pub nothing_gives : {B : Type 0} (made : B) (P : B → Type 0) → P made → Gives (nothing made) P
 nothing_gives {B} made P h ws value rest e =
     let pair : ◌≡◌ {A = B × List (List ℕ)} (made, ws) (value, rest) = cc in
     subst P (ap (λ (p : B × List (List ℕ)). p.0) pair) h
 
-next_gives : {A B : Type 0} (kind : Kind A) (P : A → Type 0) → Reads kind P → (parse : A → Parse B) (Q : B → Type 0) → ((x : A) → P x → Gives (parse x) Q) →
+pub next_gives : {A B : Type 0} (kind : Kind A) (P : A → Type 0) → Reads kind P → (parse : A → Parse B) (Q : B → Type 0) → ((x : A) → P x → Gives (parse x) Q) →
     Gives (λ ws. let_else {A = A × List (List ℕ)} (next kind ws) None (λ found. parse found.0 found.1)) Q
 next_gives kind P reads parse Q gives [] value rest e = absurd cc
 next_gives {A} {B} kind P reads parse Q gives (w ∷ ws) value rest e = go (kind.read w) refl e
@@ -142,23 +142,23 @@ next_gives {A} {B} kind P reads parse Q gives (w ∷ ws) value rest e = go (kind
     go (Some x) is t = gives x (reads w x is) ws value rest t
 
 -- a word of which nothing is needed
-skip : {A B : Type 0} (kind : Kind A) (parse : A → Parse B) (Q : B → Type 0) → ((x : A) → Gives (parse x) Q) →
+pub skip : {A B : Type 0} (kind : Kind A) (parse : A → Parse B) (Q : B → Type 0) → ((x : A) → Gives (parse x) Q) →
     Gives (λ ws. let_else {A = A × List (List ℕ)} (next kind ws) None (λ found. parse found.0 found.1)) Q
 skip kind parse Q gives = next_gives kind (λ x. Unit {0}) (anything kind) parse Q (λ x t. gives x)
 
 -- one of two, whichever it is
-either_gives : {A : Type 0} (test : Bool) (one other : Parse A) (P : A → Type 0) → Gives one P → Gives other P → Gives (λ ws. if test then one ws else other ws) P
+pub either_gives : {A : Type 0} (test : Bool) (one other : Parse A) (P : A → Type 0) → Gives one P → Gives other P → Gives (λ ws. if test then one ws else other ws) P
 either_gives true one other P h k = h
 either_gives false one other P h k = k
 
-no_more_gives : {A : Type 0} (P : A → Type 0) (keyword : List ℕ) → Gives (no_more keyword) P
+pub no_more_gives : {A : Type 0} (P : A → Type 0) (keyword : List ℕ) → Gives (no_more keyword) P
 no_more_gives P keyword ws value rest e = absurd cc
 
-keyed_gives : {A : Type 0} (table : List ℕ → Parse A) (P : A → Type 0) → ((keyword : List ℕ) → Gives (table keyword) P) → Gives (keyed table) P
+pub keyed_gives : {A : Type 0} (table : List ℕ → Parse A) (P : A → Type 0) → ((keyword : List ℕ) → Gives (table keyword) P) → Gives (keyed table) P
 keyed_gives table P gives [] value rest e = absurd cc
 keyed_gives table P gives (keyword ∷ ws) value rest e = gives keyword ws value rest e
 
-applied_gives : {A B : Type 0} (front : Parse (A → B)) (last : Parse A) (Q : A → Type 0) (P : B → Type 0) → Gives front (λ make. (x : A) → Q x → P (make x)) → Gives last Q → Gives (applied front last) P
+pub applied_gives : {A B : Type 0} (front : Parse (A → B)) (last : Parse A) (Q : A → Type 0) (P : B → Type 0) → Gives front (λ make. (x : A) → Q x → P (make x)) → Gives last Q → Gives (applied front last) P
 applied_gives {A} {B} front last Q P fronts lasts ws value rest e = go (front ws) refl e
   where
     behind : (made : (A → B) × List (List ℕ)) → front ws ≡ Some made → (o : Option (A × List (List ℕ))) → last made.1 ≡ o →
@@ -173,7 +173,7 @@ applied_gives {A} {B} front last Q P fronts lasts ws value rest e = go (front ws
     go None is t = absurd cc
     go (Some made) is t = behind made is (last made.1) refl t
 
-whole_gives : {A : Type 0} (parse : Parse A) (P : A → Type 0) → Gives parse P → (line : List ℕ) (value : A) → whole parse line ≡ Some value → P value
+pub whole_gives : {A : Type 0} (parse : Parse A) (P : A → Type 0) → Gives parse P → (line : List ℕ) (value : A) → whole parse line ≡ Some value → P value
 whole_gives {A} parse P gives line value e = go (parse (words line)) refl e
   where
     done : (b : Bool) (x : A) → (if b then Some x else None) ≡ Some value → x ≡ value

@@ -81,7 +81,7 @@ does-move event bit kind made does =
 
 -- ---- the entries of a line
 
-in_append : (row : ℕ) (xs ys : List Report) → takings_in row (xs ++ ys) ≡ takings_in row xs ++ takings_in row ys
+pub in_append : (row : ℕ) (xs ys : List Report) → takings_in row (xs ++ ys) ≡ takings_in row xs ++ takings_in row ys
 unfolding takings_in
 in_append row [] ys = refl
 in_append row (x ∷ xs) ys = ap (and_then (counter_if row (taken_in x))) (in_append row xs ys) ∙ behind (counter_if row (taken_in x))
@@ -97,14 +97,14 @@ reports-take row world made =
     ∙ append-nil (takings_in row made.says)
 
 -- those of the node itself, and of no other
-own-entries : (line : ℕ) (name : List ℕ) (row : ℕ) (told : List Report) → takings name row (entries line (Some name) told) ≡ takings_in row told
+pub own-entries : (line : ℕ) (name : List ℕ) (row : ℕ) (told : List Report) → takings name row (entries line (Some name) told) ≡ takings_in row told
 unfolding takings takings_in
 own-entries line name row [] = refl
 own-entries line name row (report ∷ told) =
     ap (λ (b : Bool). and_then (if b then counter_if row (taken_in report) else None) (takings name row (entries line (Some name) told))) (name_same name)
     ∙ ap (and_then (counter_if row (taken_in report))) (own-entries line name row told)
 
-other-entries : (line : ℕ) (own name : List ℕ) (row : ℕ) (told : List Report) → bytes_eq own name ≡ false → takings name row (entries line (Some own) told) ≡ []
+pub other-entries : (line : ℕ) (own name : List ℕ) (row : ℕ) (told : List Report) → bytes_eq own name ≡ false → takings name row (entries line (Some own) told) ≡ []
 unfolding takings
 other-entries line own name row [] n = refl
 other-entries line own name row (report ∷ told) n =

@@ -3,7 +3,8 @@ use Rattle.std.specs.Result.{result_err}
 use Rattle.gp_world.specs.Step.{step}
 use Rattle.gp_net.proofs.Stepping.{kept_stands}
 use Rattle.gp_net.proofs.Rearming.{bad_kept}
-use Rattle.gp_simulation.specs.Playing.{asked, refusal, report_text}
+use Rattle.gp_telling.specs.Texts.{report_text}
+use Rattle.gp_simulation.specs.Playing.{asked, refusal}
 use Rattle.gp_simulation.proofs.simulation.SimulationWork.take.Goals as goal
 
 pub returns-in_default-clause-err : goal.returns-in_default-clause-err

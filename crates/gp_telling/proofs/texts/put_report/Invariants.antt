@@ -1,6 +1,6 @@
 use Rattle.std.proofs.Common.{◌≡◌, ◌++◌, length}
-use Rattle.gp_simulation.specs.Playing.{report_text}
-use Rattle.gp_simulation.proofs.simulation.put_report.Given as goal
+use Rattle.gp_telling.specs.Texts.{report_text}
+use Rattle.gp_telling.proofs.texts.put_report.Given as goal
 
 abbrev pub invariant-entries : goal.invariant-entries
 invariant-entries l = l.text.items ++ report_text l.rest ≡ l.fn.text.items ++ report_text l.report
