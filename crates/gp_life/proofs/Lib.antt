@@ -1,1 +1,11 @@
 pub mod Openings
+pub mod Answering
+pub mod Effects
+pub mod Staging
+pub mod Lines
+pub mod Hearing
+pub mod Rising
+pub mod Exactly
+pub mod Lasting
+pub mod Closing
+pub mod Finishing
