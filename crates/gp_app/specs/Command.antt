@@ -6,7 +6,7 @@ use Rattle.std.specs.Str.{bytes_eq}
 use Rattle.hex.specs.Hex.{decode_of}
 use Rattle.gp_base.specs.declared.identity.Key.{Key}
 use Rattle.gp_app.specs.declared.command.Command.{Command}
-use Rattle.gp_app.specs.declared.command.Command.TheVariants.{Decode, Format, Pcap, Sim}
+use Rattle.gp_app.specs.declared.command.Command.TheVariants.{Decode, Format, Pcap, Sim, Sink}
 use Rattle.gp_listing.specs.declared.form.ListingForm.{ListingForm}
 use Rattle.gp_listing.specs.declared.form.Style.{Style}
 use Rattle.gp_listing.specs.declared.form.Style.TheVariants.{Text, Json}
@@ -44,7 +44,12 @@ abbrev pub sim_words : List (List ℕ) → Option Command
 sim_words [] = Some Sim
 sim_words (word ∷ others) = None
 
--- the four, and nothing else
+-- nothing follows `sink`
+abbrev pub sink_words : List (List ℕ) → Option Command
+sink_words [] = Some Sink
+sink_words (word ∷ others) = None
+
+-- the five, and nothing else
 abbrev pub command_of : List (List ℕ) → Option Command
 command_of [] = None
 command_of (word ∷ others) =
@@ -52,7 +57,8 @@ command_of (word ∷ others) =
     then listing_words others
     else if bytes_eq word (codes "format")
     then format_words others
-    else if bytes_eq word (codes "pcap") then pcap_words others else if bytes_eq word (codes "sim") then sim_words others else None
+    else if bytes_eq word (codes "pcap") then pcap_words others
+    else if bytes_eq word (codes "sim") then sim_words others else if bytes_eq word (codes "sink") then sink_words others else None
 
 -- a fact of the form where the arguments ask for the listing of a capture, and one where they ask for the formatting
 abbrev pub OnDecode : Option Command → (ListingForm → Type 0) → Type 0
@@ -68,7 +74,11 @@ abbrev pub OnPcap : Option Command → (Option Key → Type 0) → Type 0
 OnPcap (Some (Pcap key)) Fact = Fact key
 OnPcap _ Fact = Unit {0}
 
--- one where they ask for the report of a script, and one where they ask for anything else
+-- one where they ask for the life of a sink, one where they ask for the report of a script, and one where they ask for anything else
+abbrev pub OnSink : Option Command → Type 0 → Type 0
+OnSink (Some Sink) fact = fact
+OnSink _ fact = Unit {0}
+
 abbrev pub OnSim : Option Command → Type 0 → Type 0
 OnSim (Some Sim) fact = fact
 OnSim _ fact = Unit {0}

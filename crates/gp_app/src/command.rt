@@ -19,6 +19,8 @@ pub enum Command {
     Pcap(Option<Key>),
     /// The report of a script.
     Sim,
+    /// The life of a sink over the disk.
+    Sink,
 }
 
 /// What these arguments ask for, and `None` where they are no form of the command line.
@@ -39,6 +41,9 @@ pub fn read_command(words: &[Word]) -> Option<Command>
     }
     if word.as_slice() == b"sim".as_slice() {
         return sim_words(others);
+    }
+    if word.as_slice() == b"sink".as_slice() {
+        return sink_words(others);
     }
     None
 }
@@ -97,6 +102,16 @@ fn sim_words(words: &[Word]) -> Option<Command>
 {
     match words {
         [] => Some(Command::Sim),
+        _ => None,
+    }
+}
+
+// What follows `sink`.
+fn sink_words(words: &[Word]) -> Option<Command>
+    ensures { result ≡ spec.sink_words words.now }
+{
+    match words {
+        [] => Some(Command::Sink),
         _ => None,
     }
 }

@@ -2,21 +2,26 @@
 
 ghost use Rattle.std.specs.Prelude.{◌≡◌, ℕ, [], IfSome, IfNone, None, ◌↔◌};
 ghost use Rattle.std.specs.Option.{IsSomeAnd};
-ghost use Rattle.gp_app.specs.Command.{command_of, OnDecode, OnFormat, OnPcap, OnSim, ExceptSim};
+ghost use Rattle.gp_app.specs.Command.{command_of, OnDecode, OnFormat, OnPcap, OnSim, OnSink, ExceptSim};
 ghost use Rattle.gp_app.specs.Formatting.{FormatCompletes, FormatLeaves};
 ghost use Rattle.gp_app.specs.Leaves.{Completes, Leaves};
 ghost use Rattle.gp_lines.specs.Leaves.{Counts};
 ghost use Rattle.gp_listing.specs.Form.{listing_of};
+ghost use Rattle.gp_life.specs.Ending as life;
+ghost use Rattle.gp_life.specs.Ending.{DiskCounts, Remembers};
+ghost use Rattle.gp_life.specs.Living.{Lives, StopsAt as LifeStops};
 ghost use Rattle.gp_lines.specs.Leaves as lines;
 ghost use Rattle.gp_net.specs.World.{Stands, bits_of};
 ghost use Rattle.gp_packets.specs.Leaves as packets;
 ghost use Rattle.gp_simulation.specs.Playing as playing;
 ghost use Rattle.gp_simulation.specs.Playing.{Plays, StopsAt};
+ghost use Rattle.gp_store.specs.Recovery.{Told};
 
 use crate::command::{Command, read_command};
 use crate::decoding::Decoding;
 use gp_base::{Out, Source, Word};
 use gp_disk::Disk;
+use gp_life::live;
 use gp_lines::{DiskReason, Status, run_lines};
 use gp_listing::ListingForm;
 use gp_net::World;
@@ -35,7 +40,8 @@ const HELD: usize = 65_536;
 /// 32 hexadecimal digits, opens secured frames: the listing says whether the MIC of each is right under it, and where it
 /// is shows the command in clear. `format` writes an empty store on the disk. `pcap` lists the packets of a capture file, a line
 /// each, with the same key behind it or none. `sim` plays the lines of a script on a network and writes what is reported; the disk
-/// is as it was.
+/// is as it was. `sink` runs one sink over the disk for one life, line by line, and writes what it reports of each line before the next
+/// is judged.
 pub fn run<S: Source, O: Out, D: Disk>(
     alloc: Global,
     words: &[Word],
@@ -66,6 +72,13 @@ pub fn run<S: Source, O: Out, D: Disk>(
     ensures plays_count { OnSim (command_of words.now) (Counts result.0 (S.faults source.old) (S.faults source.new) (O.faults out.old) (O.faults out.new)) }
     ensures plays_complete { OnSim (command_of words.now) (playing.Completes result.0 (S.left source.old) (S.faults source.old) (S.faults source.new) (O.faults out.old) (O.faults out.new)) }
     ensures plays_keep_the_disk { OnSim (command_of words.now) (result.1 ≡ disk) }
+    ensures lives { OnSink (command_of words.now) (lines.Leaves (Lives D.Disk disk) (LifeStops D.Disk disk) 0 result.1 result.0
+        (S.left source.old) (S.left source.new) (O.written out.old) (O.written out.new)) }
+    ensures lives_count { OnSink (command_of words.now) (Counts result.0 (S.faults source.old) (S.faults source.new) (O.faults out.old) (O.faults out.new)) }
+    ensures lives_disk_count { OnSink (command_of words.now) (DiskCounts result.0 (D.faults disk) (D.faults result.1)) }
+    ensures remembers { OnSink (command_of words.now) (Told (D.image disk) (Remembers D.Disk disk (S.left source.old) (S.left source.new) (O.written out.old) (O.written out.new) result.1)) }
+    ensures lives_complete { OnSink (command_of words.now) (life.Completes D.Disk disk result.0 (S.left source.old) (S.faults source.old) (S.faults source.new) (O.faults out.old) (O.faults out.new) result.1) }
+
     ensures no_other_world { ExceptSim (command_of words.now) (result.2 ≡ None) }
 {
     match read_command(words) {
@@ -79,6 +92,10 @@ pub fn run<S: Source, O: Out, D: Disk>(
         Some(Command::Sim) => {
             let (status, world) = simulate(alloc, source, out);
             (status, disk, Some(world))
+        }
+        Some(Command::Sink) => {
+            let (status, disk) = live(alloc, source, out, disk);
+            (status, disk, None)
         }
     }
 }

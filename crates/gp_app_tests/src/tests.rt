@@ -8,6 +8,7 @@ use std::test::Fail;
 mod faults;
 mod formatting;
 mod frames;
+mod lives;
 mod packets;
 mod rows;
 mod scripts;

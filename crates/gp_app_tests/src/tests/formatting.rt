@@ -6,7 +6,7 @@ use gp_disk::MemoryDisk;
 use std::test::Fail;
 
 // Formats a disk, over a source and an output that fail each call, and hands the disk back.
-fn formatted(rt: &HostRuntime, disk: MemoryDisk) -> Result<(Status, MemoryDisk), Fail> {
+pub(super) fn formatted(rt: &HostRuntime, disk: MemoryDisk) -> Result<(Status, MemoryDisk), Fail> {
     let words = vec![in rt.alloc(); Word::of(rt.alloc(), "format").ok().ok_or("memory")?]?;
     let mut source = MemorySource::of(rt.alloc(), b"", 1, &[0])
         .ok()
