@@ -25,7 +25,7 @@ fail() {
 
 page() {
   case $1 in
-    gp | decode | format | pcap | sim | statuses | terms) cat -- "$top/docs/help/$1.txt" ;;
+    gp | decode | format | pcap | sim | sink | statuses | terms) cat -- "$top/docs/help/$1.txt" ;;
     *) fail "there is no page '$1'; 'gp help' names the pages" ;;
   esac
 }
@@ -91,7 +91,9 @@ build() {
 explain() {
   case $1 in
     1)
-      if [ "$3" = sim ]; then
+      if [ "$3" = sink ]; then
+        say "in $2; 'gp help sink' has the forms of a line"
+      elif [ "$3" = sim ]; then
         say "in $2; 'gp help sim' has the forms of a line, and says what each reason means"
       else
         say "a line has pairs of hexadecimal digits, or 'zcl ' and such pairs; 'gp help decode' says more"
@@ -100,7 +102,14 @@ explain() {
     2) say "'gp --help' has the commands" ;;
     3) say "$2 can't be read" ;;
     5) say "the disk is the file gp.disk in $PWD" ;;
-    7) say "the disk is the file gp.disk in $PWD; 'gp help format' says more" ;;
+    7)
+      if [ "$3" = sink ]; then
+        say "the disk is the file gp.disk in $PWD; 'gp format' writes an empty store"
+      else
+        say "the disk is the file gp.disk in $PWD; 'gp help format' says more"
+      fi
+      ;;
+    8) say "the disk is the file gp.disk in $PWD" ;;
     9)
       if [ "$3" = pcap ]; then
         say "in $2: at most 1,000,000 packets can be listed; 'editcap -F pcap -c 1000000 IN OUT' cuts it into parts"
@@ -125,6 +134,7 @@ look() {
     say usage
     return 2
   fi
+  [ "$1" != sink ] || fail "sink wants the proved program; 'gp --build' makes it, once"
   [ "$1" != format ] || fail "format wants the proved program; 'gp --build' makes it, once"
   folder=$(mktemp -d 2> /dev/null) || fail "there is no folder for temporary files at ${TMPDIR:-/tmp}"
   trap 'rm -rf "$folder"' EXIT
@@ -181,12 +191,12 @@ case ${1-} in
     ;;
 esac
 
-# The last argument of decode, of pcap and of sim is a file, where it is no option and no key.
+# The last argument of decode, of pcap, of sim and of sink is a file, where it is no option and no key.
 input="standard input"
 case ${1-} in
   decode) most=4 ;;
   pcap) most=3 ;;
-  sim) most=2 ;;
+  sim | sink) most=2 ;;
   *) most=0 ;;
 esac
 if [ $# -gt 1 ] && [ $# -le "$most" ]; then
@@ -213,7 +223,7 @@ if [ "$input" != "standard input" ]; then
     elif [ -e "$input" ]; then
       say "$input can't be read"
     else
-      if [ "$1" = sim ]; then say "there is no file $input"; else say "there is no file $input; a KEY has 32 hexadecimal digits"; fi
+      if [ "$1" = sim ] || [ "$1" = sink ]; then say "there is no file $input"; else say "there is no file $input; a KEY has 32 hexadecimal digits"; fi
     fi
     exit 3
   fi
